@@ -1,0 +1,114 @@
+-- `legal::check` meets its contract: at each way out the tests before it are passed, and the laws of Turns say what the definition answers then.
+-- Assumes nothing.
+use mathlib.Core.Path.{_≡_, sym, _∙_}
+use native.Mathlib.Omega.{arith}
+use borrow.Author.Needs.{needs}
+use lib.ListN.{length, take}
+use lib.Seq.{length-take-le}
+use Rattle.legal.proofs.Turns.{Passed, turn-window, turn-first, turn-second, turn-jobs, turn-cost, turn-long, turn-given}
+use Rattle.legal.proofs.check.Statement.{statement}
+use Rattle.legal.proofs.check.Tie as tie
+use Rattle.legal.proofs.check.Reads as reads
+use Rattle.legal.proofs.check.Lts as lts
+use Rattle.legal.proofs.is_outside.Reads as is-outside-reads
+use Rattle.legal.proofs.lowest_failing.Reads as lowest-failing-reads
+
+is-outside-requires : tie.Need-is-outside-requires
+is-outside-requires c κs = search needs
+
+returns : tie.Need-returns
+returns c = turn-window _ _ _ (sym (c .before .is-outside .ensures) ∙ c .if1 .taken)
+
+is-outside-requires-2 : tie.Need-is-outside-requires-2
+is-outside-requires-2 c κs = search needs
+
+returns-2 : tie.Need-returns-2
+returns-2 c =
+    turn-first _ _ _
+    (sym (c .before .before .before .is-outside .ensures) ∙ c .before .before .if1 .left)
+    (sym (c .before .is-outside2 .ensures) ∙ c .if2 .taken)
+
+is-outside-requires-3 : tie.Need-is-outside-requires-3
+is-outside-requires-3 c κs = search needs
+
+returns-3 : tie.Need-returns-3
+returns-3 c =
+    turn-second _ _ _
+    (sym (c .before .before .before .before .before .is-outside .ensures) ∙ c .before .before .before .before .if1 .left)
+    (sym (c .before .before .before .is-outside2 .ensures) ∙ c .before .before .if2 .left)
+    (sym (c .before .is-outside3 .ensures) ∙ c .if3 .taken)
+
+-- after the tests of the board they are passed
+abbrev At-jobs : Type 0
+At-jobs = lts.Else3 (is-outside-reads.Asked, is-outside-reads.Learnt, lowest-failing-reads.Asked, lowest-failing-reads.Learnt) reads.Pre reads.Post
+
+passed : (c : At-jobs) → Passed (c .before .before .before .before .before .before .args .board)
+passed c = record {
+  window = sym (c .before .before .before .before .before .is-outside .ensures) ∙ c .before .before .before .before .if1 .left;
+  first = sym (c .before .before .before .is-outside2 .ensures) ∙ c .before .before .if2 .left;
+  second = sym (c .before .is-outside3 .ensures) ∙ c .if3 .left;
+}
+
+-- after the test of the count there are as many jobs as are asked for
+abbrev At-few : Type 0
+At-few = lts.Else4 (is-outside-reads.Asked, is-outside-reads.Learnt, lowest-failing-reads.Asked, lowest-failing-reads.Learnt) reads.Pre reads.Post
+
+size : (c : At-few) → let a = c .before .before .before .before .before .before .before .args in length (take (a .n) (a .jobs)) ≡ a .n
+size c =
+    let a = c .before .before .before .before .before .before .before .args in
+    let full : length (a .jobs) ≡ 64 = search needs in
+    length-take-le (a .n) (a .jobs) (omega arith)
+
+returns-4 : tie.Need-returns-4
+returns-4 c = turn-jobs _ _ _ (passed (c .before)) (c .if4 .taken)
+
+lowest-failing-requires : tie.Need-lowest-failing-requires
+lowest-failing-requires c κs = search needs
+
+cast-t16 : tie.Need-cast-t16
+cast-t16 c = search needs
+
+returns-5 : tie.Need-returns-5
+returns-5 c =
+    let f = c .before .before in
+    turn-cost _ _ _ (passed (f .before)) (f .if4 .left) (size f)
+    (c .before .lowest-failing .ensures) (c .if5 .taken)
+
+lowest-failing-requires-2 : tie.Need-lowest-failing-requires-2
+lowest-failing-requires-2 c κs = search needs
+
+cast-t18 : tie.Need-cast-t18
+cast-t18 c = search needs
+
+returns-6 : tie.Need-returns-6
+returns-6 c =
+    let l = c .before .before in
+    let f = l .before .before in
+    turn-long _ _ _ (passed (f .before)) (f .if4 .left) (size f)
+    (l .before .lowest-failing .ensures) (l .if5 .left) (c .before .lowest-failing2 .ensures) (c .if6 .taken)
+
+returns-7 : tie.Need-returns-7
+returns-7 c =
+    let l = c .before .before in
+    let f = l .before .before in
+    turn-given _ _ _ (passed (f .before)) (f .if4 .left) (size f)
+    (l .before .lowest-failing .ensures) (l .if5 .left) (c .before .lowest-failing2 .ensures) (c .if6 .left)
+
+pub check-spec : {M : Type 1} → statement M
+check-spec =
+    tie.close
+    (tie.spec
+    is-outside-requires
+    returns
+    is-outside-requires-2
+    returns-2
+    is-outside-requires-3
+    returns-3
+    returns-4
+    lowest-failing-requires
+    cast-t16
+    returns-5
+    lowest-failing-requires-2
+    cast-t18
+    returns-6
+    returns-7)

@@ -1,0 +1,120 @@
+// Which sets of jobs are legal: checks 1 to 5 of document 01, each over all jobs before the next, by number and place.
+ghost use mathlib.Core.Path.{_≡_};
+ghost use Prim.Native.Nat.{_≤_};
+ghost use lib.ListN.{take};
+ghost use Rattle.legal.specs.Legal.{outside, badCost, tooLong, failsOf, lowest, legalOf, saysChecked};
+use model::Board;
+use model::CORES_MOST;
+use model::COST_MOST;
+use model::JOBS_MOST;
+use model::Job;
+use model::Refusal;
+use model::WINDOW_MOST;
+
+// A set that passes the checks, or the refusal of the first check that it fails.
+pub enum Checked {
+    Legal,
+    Refused(Refusal),
+}
+
+// The two checks that go over the jobs.
+pub enum Test {
+    Cost,
+    Long,
+}
+
+// Whether a number is outside 1 to `most`.
+fn is_outside(most: u32, x: u32) -> bool
+    ensures { λ r. ⌜ r ≡ outside most x ⌝ }
+{
+    if x < 1 {
+        return true;
+    }
+    most < x
+}
+
+// Whether a cost on an allowed kind is out of range.
+fn bad_cost(job: Job) -> bool
+    ensures { λ r. ⌜ r ≡ badCost job ⌝ }
+{
+    match job {
+        Job::Both(c1, c2) => {
+            if is_outside(COST_MOST, c1.0) {
+                return true;
+            }
+            is_outside(COST_MOST, c2.0)
+        }
+        Job::OnlyFirst(c1) => is_outside(COST_MOST, c1.0),
+        Job::OnlySecond(c2) => is_outside(COST_MOST, c2.0),
+    }
+}
+
+// Whether every cost on an allowed kind is above the window.
+fn too_long(w: u32, job: Job) -> bool
+    ensures { λ r. ⌜ r ≡ tooLong w job ⌝ }
+{
+    match job {
+        Job::Both(c1, c2) => {
+            if c1.0 <= w {
+                return false;
+            }
+            w < c2.0
+        }
+        Job::OnlyFirst(c1) => w < c1.0,
+        Job::OnlySecond(c2) => w < c2.0,
+    }
+}
+
+// Whether a job fails a check.
+fn fails(test: Test, w: u32, job: Job) -> bool
+    ensures { λ r. ⌜ r ≡ failsOf test w job ⌝ }
+{
+    match test {
+        Test::Cost => bad_cost(job),
+        Test::Long => too_long(w, job),
+    }
+}
+
+// The lowest of the first `n` jobs that fails a check, and `n` where none does.
+fn lowest_failing(test: Test, w: u32, jobs: [Job; JOBS_MOST], n: usize) -> usize
+    requires { ⌜ n ≤ 64 ⌝ }
+    ensures { λ r. ⌜ r ≡ lowest (failsOf test w) (take n jobs) ⌝ }
+{
+    let mut i: usize = 0;
+    while i < n {
+        let job = jobs[i];
+        if fails(test, w, job) {
+            return i;
+        }
+        i = i + 1;
+    }
+    i
+}
+
+// Checks 1 to 5 of the first `n` of the jobs. More than 64 can be asked for, and are refused.
+pub fn check(board: Board, jobs: [Job; JOBS_MOST], n: usize) -> Checked
+    ensures { λ r. ⌜ saysChecked r ≡ legalOf board n (take n jobs) ⌝ }
+{
+    let w = board.window;
+    if is_outside(WINDOW_MOST, w) {
+        return Checked::Refused(Refusal::Window);
+    }
+    if is_outside(CORES_MOST, board.first) {
+        return Checked::Refused(Refusal::Cores);
+    }
+    if is_outside(CORES_MOST, board.second) {
+        return Checked::Refused(Refusal::Cores);
+    }
+    if JOBS_MOST < n {
+        return Checked::Refused(Refusal::Jobs);
+    }
+    let bad = lowest_failing(Test::Cost, w, jobs, n);
+    if bad < n {
+        return Checked::Refused(Refusal::Cost(bad as u8));
+    }
+    let long = lowest_failing(Test::Long, w, jobs, n);
+    if long < n {
+        return Checked::Refused(Refusal::Long(long as u8));
+    }
+    Checked::Legal
+}
