@@ -1,0 +1,58 @@
+-- Where a job is at home, which jobs are stretched, and the far end: document 01, "The split".
+-- A job is seen from a kind, as a row: what it costs here (near) and on the other kind (far), the ticks that it has here and
+-- there, and whether it can be moved away from here. Each rule is then written once for both kinds.
+--   ceil            a quotient, rounded up
+--   homeOn          whether a job on both kinds is at home on a kind: the only rule in which the kinds differ
+--   atHome          a job at home, seen from a kind
+--   stretchedAt     1 for a stretched job whose home is a kind, else 0
+--   keepOf, giveOf  the far end: the ticks that the job keeps at home, and those that it has on the other kind
+-- Assumes nothing.
+use mathlib.Core.Bool.{Bool, true, false, cond, _&&_}
+use Prim.Native.Nat.{ℕ, _+_, _-_, _*_, _/_}
+use lib.Dec.{leb, ltb}
+use Rattle.model.specs.Board.{on}
+use Rattle.model.specs.declared.Kind.{Kind}
+use Rattle.model.specs.declared.Kind.the-variants.{First, Second}
+use Rattle.model.specs.declared.Job.{Job}
+use Rattle.model.specs.declared.Job.the-variants.{Both, OnlyFirst, OnlySecond}
+use Rattle.split.specs.declared.Row.{Row}
+use Rattle.split.specs.declared.FarEnd.{FarEnd}
+
+abbrev pub ceil : ℕ → ℕ → ℕ
+ceil a b = (a + (b - 1)) / b
+
+-- At home on the first kind if c1 ≤ c2, else on the second.
+abbrev pub homeOn : Kind → ℕ → ℕ → Bool
+homeOn First c1 c2 = leb c1 c2
+homeOn Second c1 c2 = ltb c2 c1
+
+-- A job on both kinds that costs n here and f on the other kind, at home here or there. At home here, it can be moved.
+abbrev pub bothRow : Bool → ℕ → ℕ → Row
+bothRow true n f = record { near = n; far = f; here = n; there = 0; movable = true }
+bothRow false n f = record { near = n; far = f; here = 0; there = f; movable = false }
+
+-- A job on one kind alone, this one or the other, with its whole cost there.
+abbrev pub onlyRow : Bool → ℕ → Row
+onlyRow true c = record { near = c; far = 0; here = c; there = 0; movable = false }
+onlyRow false c = record { near = 0; far = c; here = 0; there = c; movable = false }
+
+unfoldable pub atHome : Kind → Job → Row
+atHome k (Both c1 c2) = bothRow (homeOn k (c1 .0) (c2 .0)) (on k (c1 .0) (c2 .0)) (on k (c2 .0) (c1 .0))
+atHome k (OnlyFirst c1) = onlyRow (on k true false) (c1 .0)
+atHome k (OnlySecond c2) = onlyRow (on k false true) (c2 .0)
+
+-- A job on both kinds with exactly one cost above W. Its home is the kind where it fits.
+unfoldable pub stretchedAt : Kind → ℕ → Job → ℕ
+stretchedAt k w (Both c1 c2) = cond (leb (on k (c1 .0) (c2 .0)) w && ltb w (on k (c2 .0) (c1 .0))) 1 0
+stretchedAt k w (OnlyFirst c1) = 0
+stretchedAt k w (OnlySecond c2) = 0
+
+-- The far end of a job that costs n at home and f on the other kind: (0, f) if f ≤ W, and else (L, W − L) with L rounded up.
+unfoldable pub keepOf : (w n f : ℕ) → ℕ
+keepOf w n f = cond (leb f w) 0 (ceil (n * (f - w)) (f - n))
+
+unfoldable pub giveOf : (w n f : ℕ) → ℕ
+giveOf w n f = cond (leb f w) f (w - keepOf w n f)
+
+abbrev pub farEndOf : (w n f : ℕ) → FarEnd
+farEndOf w n f = record { keep = keepOf w n f; give = giveOf w n f }

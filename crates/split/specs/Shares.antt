@@ -1,0 +1,127 @@
+-- The split of a set, and the starting balance: document 01, "The split".
+--   shareOf      the share of a row that a kind sees
+--   settled      the answer where the steps from a kind are over: both kinds have to be within their rooms
+--   splitOf      the split of a legal set over two rooms, or refusal 6
+--   sharesOf     the same of any set: checks 1 to 5 come first
+--   balanceOf    the starting balance of each kind, of any set that passes checks 1 to 5
+--   saysShared, saysBalanced    what the code's answers say, in document 01's terms
+--   AtHome       what the code's sums of the jobs at home say
+--   Answers      an answer of the code's that says so, with zeros in every row that it does not count
+-- Assumes nothing.
+use mathlib.Core.Path.{_≡_}
+use mathlib.Core.Bool.{Bool, true, false, cond}
+use mathlib.Core.List.{List, [], _∷_, map}
+use Prim.Native.Nat.{ℕ, _-_, _≤_}
+use lib.Dec.{leb, ltb}
+use lib.IntN.{ℤ, pos, _-ℤ_}
+use lib.ListN.{length, take, drop, replicate}
+use Rattle.model.specs.Board.{on, other, roomOf}
+use Rattle.model.specs.Refusal.{Answer, given, refused, saysRefusal, andThen}
+use Rattle.model.specs.Split.{share}
+use Rattle.model.specs.declared.Kind.{Kind}
+use Rattle.model.specs.declared.Kind.the-variants.{First, Second}
+use Rattle.model.specs.declared.Board.{Board}
+use Rattle.model.specs.declared.Job.{Job}
+use Rattle.model.specs.declared.Share.{Share}
+use Rattle.model.specs.declared.Refusal.{Refusal}
+use Rattle.model.specs.Limits.{jobsMost}
+use Rattle.legal.specs.Legal.{legalOf}
+use Rattle.split.specs.Home.{atHome}
+use Rattle.split.specs.Steps.{hereSum, thereSum, stepsOf}
+use Rattle.split.specs.declared.Row.{Row}
+use Rattle.split.specs.declared.Sums.{Sums}
+use Rattle.split.specs.declared.Outcome.{Outcome}
+use Rattle.split.specs.declared.Outcome.the-variants.{Shares, Refused}
+use Rattle.split.specs.declared.Shared.{Shared}
+use Rattle.split.specs.declared.Balance.{Balance}
+use Rattle.split.specs.declared.Balanced.{Balanced}
+use Rattle.split.specs.declared.Balanced.the-variants.{Given, Unbalanced}
+
+abbrev pub shareOf : Kind → Row → Share
+shareOf k r = share (on k (r .here) (r .there)) (on k (r .there) (r .here))
+
+abbrev pub sharesSeen : Kind → List Row → List Share
+sharesSeen k rs = map (shareOf k) rs
+
+-- All jobs at home, seen from a kind, and their ticks on it.
+abbrev pub homeRows : Kind → List Job → List Row
+homeRows k js = map (atHome k) js
+
+abbrev pub homeTicks : Kind → List Job → ℕ
+homeTicks k js = hereSum (homeRows k js)
+
+-- The ticks at home on each kind, as the code adds them up.
+pub record AtHome (js : List Job) (r : Sums) : Type 0 where
+  pub first : r .here ≡ homeTicks First js
+  pub second : r .there ≡ homeTicks Second js
+  pub small-first : r .here ≤ 274877906880
+  pub small-second : r .there ≤ 274877906880
+
+-- The three causes of a refusal for room: both kinds over at home; the kind that was over still over with its movable jobs at their
+-- far ends; that kind within its room, and the other not.
+abbrev pub bothOver : {A : Type 0} → Answer A
+bothOver = refused 6 0
+
+abbrev pub stillOver : {A : Type 0} → Kind → Answer A
+stillOver k = refused 6 0
+
+abbrev pub otherOver : {A : Type 0} → Kind → Answer A
+otherOver k = refused 6 0
+
+-- The steps took jobs from kind k until it was within its room. If it never was, refuse; then refuse if the other kind is over.
+unfoldable pub settled : Kind → (room away : ℕ) → List Row → Answer (List Share)
+settled k room away rs =
+    cond (leb (hereSum rs) room) (cond (leb (thereSum rs) away) (given (sharesSeen k rs)) (otherOver k)) (stillOver k)
+
+-- Kind k is over at home, and the other is not.
+abbrev pub relieved : Kind → (w room away : ℕ) → List Job → Answer (List Share)
+relieved k w room away js = settled k room away (stepsOf (length js) w room (homeRows k js))
+
+-- By whether the first kind is over at home, and whether the second is.
+unfoldable pub byOver : Bool → Bool → (w room1 room2 : ℕ) → List Job → Answer (List Share)
+byOver true true w room1 room2 js = bothOver
+byOver true false w room1 room2 js = relieved First w room1 room2 js
+byOver false true w room1 room2 js = relieved Second w room2 room1 js
+byOver false false w room1 room2 js = given (sharesSeen First (homeRows First js))
+
+abbrev pub splitOf : (w room1 room2 : ℕ) → List Job → Answer (List Share)
+splitOf w room1 room2 js =
+    byOver (ltb room1 (homeTicks First js)) (ltb room2 (homeTicks Second js)) w room1 room2 js
+
+abbrev pub sharesOf : Board → ℕ → List Job → Answer (List Share)
+sharesOf board n js =
+    andThen (legalOf board n js) (λ (_ : Unit {0}). splitOf (board .window) (roomOf board First) (roomOf board Second) js)
+
+-- Its room less the ticks of the jobs at home there: below zero where the kind is over.
+abbrev pub balanceOn : Board → List Job → Kind → ℤ
+balanceOn board js k = pos (roomOf board k) -ℤ pos (homeTicks k js)
+
+abbrev pub balanceOf : Board → ℕ → List Job → Answer Balance
+balanceOf board n js =
+    andThen (legalOf board n js) (λ (_ : Unit {0}). given (record { first = balanceOn board js First; second = balanceOn board js Second }))
+
+abbrev pub saysOutcome : Outcome → List Share → Answer (List Share)
+saysOutcome (Shares n) ss = given (take n ss)
+saysOutcome (Refused r) ss = saysRefusal r
+
+abbrev pub saysShared : Shared → Answer (List Share)
+saysShared r = saysOutcome (r .outcome) (r .shares)
+
+abbrev pub rowsOf : Outcome → ℕ
+rowsOf (Shares n) = n
+rowsOf (Refused r) = 0
+
+abbrev pub zeros : ℕ → List Share
+zeros n = replicate n (share 0 0)
+
+pub record Answers (answer : Answer (List Share)) (r : Shared) : Type 0 where
+  pub says : saysShared r ≡ answer
+  pub few : rowsOf (r .outcome) ≤ jobsMost
+  pub rest : drop (rowsOf (r .outcome)) (r .shares) ≡ zeros (jobsMost - rowsOf (r .outcome))
+
+abbrev pub none : Refusal → Shared
+none refusal = record { outcome = Refused refusal; shares = zeros jobsMost }
+
+abbrev pub saysBalanced : Balanced → Answer Balance
+saysBalanced (Given b) = given b
+saysBalanced (Unbalanced r) = saysRefusal r
