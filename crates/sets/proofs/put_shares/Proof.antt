@@ -1,0 +1,50 @@
+-- `sets::put_shares` meets its contract: the rows are counted up to 64. Assumes nothing.
+use Prim.Native.Nat.{_≤_, _-_}
+use borrow.Author.Needs.{needs}
+use Rattle.sets.proofs.put_shares.Statement.{statement}
+use Rattle.sets.proofs.put_shares.Tie as tie
+
+abbrev Inv-loop : tie.InvT-loop
+Inv-loop n shares i₀ i = i ≤ 64
+
+abbrev μ-loop : tie.MeasureT-loop
+μ-loop n shares i₀ i = 64 - i
+
+loop-holds : tie.Need-loop-holds Inv-loop μ-loop
+loop-holds c = search needs
+
+mul-s : tie.Need-mul-s Inv-loop μ-loop
+mul-s c = search needs
+
+array-copy-out-s : tie.Need-array-copy-out-s Inv-loop μ-loop
+array-copy-out-s c = search needs
+
+put-share-requires : tie.Need-put-share-requires Inv-loop μ-loop
+put-share-requires c κs = search needs
+
+add-i : tie.Need-add-i Inv-loop μ-loop
+add-i c = search needs
+
+loop-less : tie.Need-loop-less Inv-loop μ-loop
+loop-less c = search needs
+
+loop-again : tie.Need-loop-again Inv-loop μ-loop
+loop-again c = search needs
+
+returns : tie.Need-returns Inv-loop μ-loop
+returns c = search needs
+
+pub put-shares-spec : {M : Type 1} → statement M
+put-shares-spec =
+    tie.close
+    (tie.spec
+    Inv-loop
+    μ-loop
+    loop-holds
+    mul-s
+    array-copy-out-s
+    put-share-requires
+    add-i
+    loop-less
+    loop-again
+    returns)

@@ -1,0 +1,185 @@
+// Runs the split on the sets of document 01 and on the Table I of source document 003, and on sets that every check refuses. A line each:
+// whether the starting balance of the two kinds is the one written beside the set, then the shares, or the refusal's number and place.
+use libc::STDOUT_FILENO;
+use model::Board;
+use model::FirstTicks;
+use model::JOBS_MOST;
+use model::Job;
+use model::Refusal;
+use model::SecondTicks;
+use model::Share;
+use split::Balanced;
+use split::Outcome;
+
+// B(a,b) of document 01.
+fn both(a: u32, b: u32) -> Job {
+    Job::Both(FirstTicks(a), SecondTicks(b))
+}
+
+// F(a) of document 01.
+fn first(a: u32) -> Job {
+    Job::OnlyFirst(FirstTicks(a))
+}
+
+fn second(b: u32) -> Job {
+    Job::OnlySecond(SecondTicks(b))
+}
+
+fn board(window: u32, cores1: u32, cores2: u32) -> Board {
+    Board {
+        window: window,
+        first: cores1,
+        second: cores2,
+    }
+}
+
+fn put(text: &[u8]) {
+    io::write_all(STDOUT_FILENO, text);
+}
+
+fn put_number(n: u64) {
+    io::print_decimal(STDOUT_FILENO, n);
+}
+
+fn put_refusal(refusal: Refusal) {
+    put(b"refusal ");
+    put_number(model::number(refusal) as u64);
+    put(b" at ");
+    put_number(model::place(refusal) as u64);
+}
+
+fn put_share(s: Share) {
+    put(b" (");
+    put_number(s.first.0 as u64);
+    put(b",");
+    put_number(s.second.0 as u64);
+    put(b")");
+}
+
+fn put_shares(shares: [Share; JOBS_MOST], n: usize) {
+    let mut i: usize = 0;
+    while i < JOBS_MOST {
+        let s = shares[i];
+        if i < n {
+            put_share(s);
+        }
+        i = i + 1;
+    }
+}
+
+// Whether the starting balance is the expected one, where there is one.
+fn put_balance(balanced: Balanced, first: i64, second: i64) {
+    match balanced {
+        Balanced::Given(b) => {
+            if b.first == first {
+                if b.second == second {
+                    put(b"balance right; ");
+                } else {
+                    put(b"balance WRONG on the second kind; ");
+                }
+            } else {
+                put(b"balance WRONG on the first kind; ");
+            }
+        }
+        Balanced::Unbalanced(_) => put(b"no balance; "),
+    }
+}
+
+// The line of a set of the first `n` jobs, whose starting balance is to be `first` and `second`.
+fn show(board: Board, jobs: [Job; JOBS_MOST], n: usize, first: i64, second: i64) {
+    put_balance(split::starting_balance(board, jobs, n), first, second);
+    let shared = split::split(board, jobs, n);
+    let outcome = shared.outcome;
+    match outcome {
+        Outcome::Shares(count) => {
+            let shares = shared.shares;
+            put(b"shares");
+            put_shares(shares, count);
+        }
+        Outcome::Refused(refusal) => put_refusal(refusal),
+    }
+    put(b"\n");
+}
+
+// A set of up to four jobs. The fourth stands in all rows after it too.
+fn four(j0: Job, j1: Job, j2: Job, j3: Job) -> [Job; JOBS_MOST] {
+    let mut jobs = [j3; JOBS_MOST];
+    jobs[0] = j0;
+    jobs[1] = j1;
+    jobs[2] = j2;
+    jobs
+}
+
+fn table_of_document_01() {
+    let one = board(10, 1, 1);
+    let two = board(10, 2, 2);
+    let x = both(1, 1);
+    let s = both(6, 16);
+    let t = both(10, 10);
+    show(one, four(x, x, x, x), 0, 10, 10);
+    show(one, four(both(6, 9), both(6, 8), x, x), 2, -2, 10);
+    show(one, four(both(9, 6), both(8, 6), x, x), 2, 10, -2);
+    show(one, four(s, first(6), x, x), 2, -2, 10);
+    show(one, four(t, t, x, x), 2, -10, 10);
+    show(one, four(t, t, t, x), 3, -20, 10);
+    show(one, four(first(10), x, x, x), 1, 0, 10);
+    show(one, four(first(11), x, x, x), 1, 0, 0);
+    show(one, four(both(11, 11), x, x, x), 1, 0, 0);
+    show(one, four(both(10, 11), x, x, x), 1, 0, 10);
+    show(two, four(s, s, s, first(8)), 4, -6, 20);
+    show(two, four(s, s, s, first(9)), 4, -7, 20);
+    show(one, four(both(7, 7), x, x, x), 1, 3, 10);
+    show(one, four(both(11, 10), x, x, x), 1, 10, 0);
+}
+
+fn table_of_source_003() {
+    let mut jobs = [both(4, 7); JOBS_MOST];
+    jobs[0] = both(10, 3);
+    jobs[1] = both(9, 3);
+    jobs[2] = both(14, 6);
+    jobs[3] = both(18, 9);
+    jobs[4] = both(12, 8);
+    jobs[5] = both(8, 9);
+    show(board(10, 3, 2), jobs, 7, 18, -9);
+}
+
+// Every check, on both sides of its limit, with the job that it names.
+fn refusals() {
+    let wide = board(10, 8, 8);
+    let ok = both(6, 9);
+    let all = four(ok, ok, ok, ok);
+    show(board(0, 1, 1), all, 1, 0, 0);
+    show(board(65536, 1, 1), all, 1, 0, 0);
+    show(board(65535, 1, 1), all, 1, 65529, 65535);
+    show(board(4294967295, 9, 0), all, 65, 0, 0);
+    show(board(10, 0, 1), all, 1, 0, 0);
+    show(board(10, 1, 9), all, 1, 0, 0);
+    show(wide, all, 1, 74, 80);
+    show(wide, four(first(0), ok, ok, ok), 65, 0, 0);
+    show(wide, all, 18446744073709551615, 0, 0);
+    show(
+        wide,
+        four(second(1), second(1), second(1), second(1)),
+        64,
+        80,
+        16,
+    );
+    show(wide, four(ok, both(1, 0), first(11), ok), 3, 0, 0);
+    show(wide, four(ok, first(11), both(1, 1000001), ok), 3, 0, 0);
+    show(
+        wide,
+        four(ok, both(1000000, 11), first(4294967295), ok),
+        3,
+        0,
+        0,
+    );
+    show(wide, four(ok, both(1000000, 10), second(11), ok), 3, 0, 0);
+    show(wide, four(ok, ok, ok, second(1000000)), 4, 0, 0);
+    show(wide, four(ok, ok, ok, second(1000000)), 3, 62, 80);
+}
+
+fn main() {
+    table_of_document_01();
+    table_of_source_003();
+    refusals();
+}
