@@ -1,2 +1,4 @@
+pub mod Lists
 pub mod Movers
 pub mod Product
+pub mod Walk

@@ -4,3 +4,4 @@ pub mod Board
 pub mod Refusal
 pub mod Split
 pub mod Movers
+pub mod Timetable

@@ -13,6 +13,10 @@ pub const JOBS_MOST: usize = 64;
 
 pub const COST_MOST: u32 = 1000000;
 
+pub const SLICES_MOST: usize = 94;
+
+pub const TEXT_MOST: usize = 4096;
+
 // The two kinds of core of a board.
 pub enum Kind {
     First,
@@ -45,7 +49,16 @@ pub struct Share {
     pub second: SecondTicks,
 }
 
-// Why a call is refused, with the job where there is one to name.
+// A run of ticks of a job on one core, in every window. Its start and its length take two bytes, as a window may.
+pub struct Slice {
+    pub job: u8,
+    pub kind: Kind,
+    pub core: u8,
+    pub start: u16,
+    pub length: u16,
+}
+
+// Why a call is refused, with the job or the line of a text where there is one to name.
 pub enum Refusal {
     Window,
     Cores,
@@ -53,6 +66,10 @@ pub enum Refusal {
     Cost(u8),
     Long(u8),
     Room,
+    Space,
+    Digits(u8),
+    Record(u8),
+    Order(u8),
 }
 
 // The cores of a kind.
@@ -83,6 +100,10 @@ pub fn number(refusal: Refusal) -> u8
         Refusal::Cost(_) => 4,
         Refusal::Long(_) => 5,
         Refusal::Room => 6,
+        Refusal::Space => 7,
+        Refusal::Digits(_) => 8,
+        Refusal::Record(_) => 9,
+        Refusal::Order(_) => 10,
     }
 }
 
@@ -97,5 +118,9 @@ pub fn place(refusal: Refusal) -> u8
         Refusal::Cost(job) => job,
         Refusal::Long(job) => job,
         Refusal::Room => 0,
+        Refusal::Space => 0,
+        Refusal::Digits(line) => line,
+        Refusal::Record(line) => line,
+        Refusal::Order(line) => line,
     }
 }

@@ -7,7 +7,7 @@ use mathlib.Core.Path.{_≡_, refl, ap}
 use mathlib.Core.Bool.{Bool, true, false, cond}
 use mathlib.Core.List.{List, [], _∷_}
 use mathlib.Core.Logic.{_↔_}
-use Prim.Native.Nat.{ℕ, _+_, _*_, _≤_, _<_}
+use Prim.Native.Nat.{ℕ, _*_, _≤_}
 use native.Mathlib.Nat.{mul-le-mul-left}
 use native.Mathlib.Omega.{arith}
 use lib.Dec.{leb, ltb}
@@ -131,6 +131,18 @@ module _ (board : Board) (n : ℕ) (js : List Job) where
           → Demands board js (andThen x (λ _. splitOf (board .window) (roomOf board First) (roomOf board Second) js))
       go (given _) e = weaker (splitOf (board .window) (roomOf board First) (roomOf board Second) js) (right (legal-lawful board n js e))
       go (refused number place) e = λ six. absurd (omega (arith, legal-or board n js number place e))
+
+  pub shares-numbered : (number place : ℕ) → sharesOf board n js ≡ refused number place → number ≤ 6
+  shares-numbered number place e = go (legalOf board n js) refl e
+    where
+      six : (x : Answer (List Share)) → Right x → x ≡ refused number place → number ≤ 6
+      six (given ss) h e = let z : _≡_ {A = ℕ} 0 1 = cc in absurd (omega arith)
+      six (refused m q) h e = let same : m ≡ number = cc in omega (arith, h .0)
+
+      go : (x : Answer (Unit {0})) → legalOf board n js ≡ x
+          → andThen x (λ _. splitOf (board .window) (roomOf board First) (roomOf board Second) js) ≡ refused number place → number ≤ 6
+      go (given _) legal e = six _ (right (legal-lawful board n js legal)) e
+      go (refused m q) legal e = let same : m ≡ number = cc in omega (arith, legal-or board n js m q legal)
 
   pub exactly : Exactly board n js (sharesOf board n js)
   exactly legal none₁ none₂ = rw legal (exact _ (right (legal-lawful board n js legal)))

@@ -10,12 +10,12 @@
 -- Assumes nothing.
 use mathlib.Core.Path.{_≡_}
 use mathlib.Core.Bool.{Bool, true, false, cond}
-use mathlib.Core.List.{List, [], _∷_, map}
+use mathlib.Core.List.{List, map}
 use Prim.Native.Nat.{ℕ, _-_, _≤_}
 use lib.Dec.{leb, ltb}
 use lib.IntN.{ℤ, pos, _-ℤ_}
 use lib.ListN.{length, take, drop, replicate}
-use Rattle.model.specs.Board.{on, other, roomOf}
+use Rattle.model.specs.Board.{on, roomOf}
 use Rattle.model.specs.Refusal.{Answer, given, refused, saysRefusal, andThen}
 use Rattle.model.specs.Split.{share}
 use Rattle.model.specs.declared.Kind.{Kind}
@@ -27,7 +27,7 @@ use Rattle.model.specs.declared.Refusal.{Refusal}
 use Rattle.model.specs.Limits.{jobsMost}
 use Rattle.legal.specs.Legal.{legalOf}
 use Rattle.split.specs.Home.{atHome}
-use Rattle.split.specs.Steps.{hereSum, thereSum, stepsOf}
+use Rattle.split.specs.Steps.{hereSum, thereSum, sumMost, stepsOf}
 use Rattle.split.specs.declared.Row.{Row}
 use Rattle.split.specs.declared.Sums.{Sums}
 use Rattle.split.specs.declared.Outcome.{Outcome}
@@ -54,8 +54,8 @@ homeTicks k js = hereSum (homeRows k js)
 pub record AtHome (js : List Job) (r : Sums) : Type 0 where
   pub first : r .here ≡ homeTicks First js
   pub second : r .there ≡ homeTicks Second js
-  pub small-first : r .here ≤ 274877906880
-  pub small-second : r .there ≤ 274877906880
+  pub small-first : r .here ≤ sumMost
+  pub small-second : r .there ≤ sumMost
 
 -- The three causes of a refusal for room: both kinds over at home; the kind that was over still over with its movable jobs at their
 -- far ends; that kind within its room, and the other not.

@@ -25,11 +25,15 @@ hereSum rs = sumOf (λ (r : Row). r .here) rs
 abbrev pub thereSum : List Row → ℕ
 thereSum rs = sumOf (λ (r : Row). r .there) rs
 
+-- 64 rows of 32 bits.
+abbrev pub sumMost : ℕ
+sumMost = 274877906880
+
 pub record Summed (rs : List Row) (r : Sums) : Type 0 where
   pub here : r .here ≡ hereSum rs
   pub there : r .there ≡ thereSum rs
-  pub small-here : r .here ≤ 274877906880
-  pub small-there : r .there ≤ 274877906880
+  pub small-here : r .here ≤ sumMost
+  pub small-there : r .there ≤ sumMost
 
 abbrev pub ahead : Row → Row → Bool
 ahead r s = ltb (s .near * r .far) (r .near * s .far)
@@ -92,4 +96,4 @@ pub record Asks (w room all : ℕ) (r : Row) : Type 0 where
   pub row : Movable w r
   pub among : r .here ≤ all
   pub over : room < all
-  pub small : all ≤ 274877906880
+  pub small : all ≤ sumMost

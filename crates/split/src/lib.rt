@@ -5,7 +5,7 @@
 // equal is at home on the first kind. The next job to move is found by looking over all jobs each time.
 ghost use mathlib.Core.Path.{_≡_};
 ghost use mathlib.Core.List.{_++_};
-ghost use Prim.Native.Nat.{ℕ, _-_, _≤_, _<_, _^_};
+ghost use Prim.Native.Nat.{_-_, _≤_, _<_, _^_};
 ghost use lib.IntN.{pos, _-ℤ_};
 ghost use lib.ListN.{take, drop, replicate};
 ghost use Rattle.model.specs.Board.{roomOf};

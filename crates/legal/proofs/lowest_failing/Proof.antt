@@ -8,7 +8,7 @@ use lib.ListN.{length, take, drop}
 use Rattle.model.specs.declared.Job.{Job}
 use Rattle.model.specs.declared.Job.the-variants.{Both}
 use Rattle.legal.specs.Legal.{lowest, failsOf}
-use Rattle.legal.proofs.Walk.{left-cons, left-none}
+use Rattle.model.proofs.Walk.{left-cons, left-none}
 use Rattle.legal.proofs.lowest_failing.Statement.{statement}
 use Rattle.legal.proofs.lowest_failing.Tie as tie
 

@@ -5,7 +5,7 @@ use Prim.Native.Nat.{_-_, _≤_}
 use native.Mathlib.Omega.{arith}
 use borrow.Author.Needs.{needs}
 use lib.ListN.{length, take, drop}
-use Rattle.legal.proofs.Walk.{left-cons, left-none}
+use Rattle.model.proofs.Walk.{left-cons, left-none}
 use Rattle.split.specs.Steps.{nextFrom, nextOf, noRow}
 use Rattle.split.proofs.next_of.Statement.{statement}
 use Rattle.split.proofs.next_of.Tie as tie
