@@ -1,0 +1,70 @@
+-- How many slices the table has, and that it has one of each job with a share. One idea: a slice more than pieces is a run that passes an
+-- inner edge of the kind's cores, and a piece more than jobs is a mover. Assumes nothing.
+use mathlib.Core.Path.{_≡_}
+use mathlib.Core.Bool.{Bool, true, false, cond}
+use mathlib.Core.List.{List, [], _∷_}
+use Prim.Native.Nat.{ℕ, _+_, _*_, _≤_, _<_}
+use native.Mathlib.Omega.{arith}
+use lib.ListN.{length, getD, length-append}
+use Rattle.model.specs.Board.{coresOf}
+use Rattle.model.specs.Lists.{countOf}
+use Rattle.model.specs.Movers.{movers}
+use Rattle.model.specs.Split.{share, ticksOn}
+use Rattle.model.specs.Timetable.{isOf, ticksIn}
+use Rattle.model.specs.declared.Board.{Board}
+use Rattle.model.specs.declared.Kind.{Kind}
+use Rattle.model.specs.declared.Kind.the-variants.{First, Second}
+use Rattle.model.specs.declared.Share.{Share}
+use Rattle.model.specs.declared.Slice.{Slice}
+use Rattle.model.proofs.Movers.{movers-few}
+use Rattle.slices.specs.Fits.{Fits}
+use Rattle.slices.specs.Table.{piecesOf, tableOf}
+use Rattle.slices.proofs.Packs.{cuts, packed-length, cuts-few}
+use Rattle.slices.proofs.Pieces.{pieces-total, pieces-few}
+use Rattle.slices.proofs.Places.{Placed, pieces-placed}
+use Rattle.slices.proofs.Timetabled.{rowsOn, sized, table-timetable}
+
+ticks-some : (kind : Kind) (job : ℕ) (rows : List Slice) → 0 < ticksIn kind job rows → 0 < countOf (isOf kind job) rows
+ticks-some kind job [] h = omega arith
+ticks-some kind job (s ∷ rows) h = go (isOf kind job s) h (ticks-some kind job rows)
+  where
+    go : (t : Bool) → 0 < cond t (s .length) 0 + ticksIn kind job rows → (0 < ticksIn kind job rows → 0 < countOf (isOf kind job) rows)
+        → 0 < cond t 1 0 + countOf (isOf kind job) rows
+    go true h more = omega arith
+    go false h more = omega (arith, more (omega arith))
+
+module _ (board : Board) (ss : List Share) (fits : Fits board ss) where
+  -- Every job with a share above 0 on a kind has a slice there.
+  pub table-jobs : (kind : Kind) (job : ℕ) → job < length ss → 0 < ticksOn kind (getD ss job (share 0 0))
+      → 0 < countOf (isOf kind job) (tableOf (board .window) ss)
+  table-jobs kind job h some =
+      ticks-some kind job (tableOf (board .window) ss) (omega (arith, table-timetable board ss fits .served kind job h))
+
+  pub fits-movers : movers ss ≤ board .first + board .second
+  fits-movers =
+      movers-few (board .window) (board .first) (board .second) ss (fits .some) (fits .one-uneven)
+      (omega (arith, fits .within First, fits .within Second))
+
+  -- A slice for each piece, and one more for each edge of a core that a run passes.
+  pub table-length : length (tableOf (board .window) ss)
+      ≡ length (piecesOf First (board .window) ss) + length (piecesOf Second (board .window) ss)
+      + (cuts (board .window) 0 (piecesOf First (board .window) ss) + cuts (board .window) 0 (piecesOf Second (board .window) ss))
+  unfolding tableOf
+  table-length =
+      omega (
+        arith,
+        length-append (rowsOn First (board .window) ss) (rowsOn Second (board .window) ss),
+        packed-length First (board .window) (fits .some) 0 (piecesOf First (board .window) ss),
+        packed-length Second (board .window) (fits .some) 0 (piecesOf Second (board .window) ss),
+      )
+
+  kind-cuts : (k : Kind) → 1 ≤ coresOf board k → cuts (board .window) 0 (piecesOf k (board .window) ss) + 1 ≤ coresOf board k
+  kind-cuts k some =
+      cuts-few k (board .window) (fits .some) (Placed k (board .window) ss) (sized board ss fits k) (coresOf board k) 1 0
+      (piecesOf k (board .window) ss) (pieces-placed k (board .window) ss) (omega arith) (omega arith) some
+      (omega (arith, pieces-total k (board .window) ss, fits .within k))
+
+  pub table-few : 1 ≤ board .first → 1 ≤ board .second
+      → length (tableOf (board .window) ss) + 2 ≤ length ss + 2 * (board .first + board .second)
+  table-few some1 some2 =
+      omega (arith, table-length, fits-movers, kind-cuts First some1, kind-cuts Second some2, pieces-few (board .window) ss)

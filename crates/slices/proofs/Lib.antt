@@ -1,0 +1,12 @@
+pub mod Cuts
+pub mod Packs
+pub mod Pieces
+pub mod Places
+pub mod Timetabled
+pub mod Counts
+pub mod Rows
+pub mod Members
+pub mod Totals
+pub mod Earlier
+pub mod MovesAll
+pub mod OncePerCore

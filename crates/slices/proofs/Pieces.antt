@@ -1,0 +1,149 @@
+-- The pieces of a kind: their ticks, how many they are, and the position at which each begins. One idea: exactly one of the three tests
+-- of the order holds of a share above 0, so a job has one piece, and what stands before it is a sum over shares. Assumes nothing.
+use mathlib.Core.Path.{_≡_, refl}
+use mathlib.Core.Bool.{Bool, true, false, cond, not, _&&_}
+use mathlib.Core.List.{List, [], _∷_}
+use Prim.Native.Nat.{ℕ, zero, suc, _+_, _≤_, _<_}
+use native.Mathlib.Omega.{arith}
+use lib.Dec.{ltb, eqb}
+use lib.ListN.{length, getD, take, length-append}
+use borrow.Author.Tests.{ltb-false, eq-eqb, ne-eqb}
+use Rattle.model.specs.Lists.{sumOf, countOf}
+use Rattle.model.specs.Movers.{isMover, isEven, movers}
+use Rattle.model.specs.Split.{share, ticksOn, ticksOf}
+use Rattle.model.specs.declared.Kind.{Kind}
+use Rattle.model.specs.declared.Kind.the-variants.{First, Second}
+use Rattle.model.specs.declared.Share.{Share}
+use Rattle.model.proofs.Lists.{sum-append}
+use Rattle.slices.specs.Table.{Piece, evenMover, otherMover, alone, chosen, piecesOf}
+use Rattle.slices.proofs.Packs.{AllAt, total, ticksFor}
+
+-- The ticks of a share on a kind if a test holds of it, and the share of a job.
+abbrev pub part : (Share → Bool) → Kind → Share → ℕ
+part test k s = cond (test s) (ticksOn k s) 0
+
+abbrev pub shareAt : List Share → ℕ → Share
+shareAt ss j = getD ss j (share 0 0)
+
+nothing : (t : Bool) → _≡_ {A = ℕ} (cond t 0 0) 0
+nothing true = refl
+nothing false = refl
+
+-- ---- the jobs of one test
+module _ (test : Share → Bool) (k : Kind) where
+  chosen-sum : (f : Piece → ℕ) (i : ℕ) (s : Share) (ss : List Share) → sumOf f (chosen test k i (s ∷ ss))
+      ≡ cond (test s) (f (record { job = i; ticks = ticksOn k s })) 0 + sumOf f (chosen test k (i + 1) ss)
+  unfolding chosen
+  chosen-sum f i s ss = go (test s)
+    where
+      go : (t : Bool) → sumOf f (cond t (record { job = i; ticks = ticksOn k s } ∷ chosen test k (i + 1) ss) (chosen test k (i + 1) ss))
+          ≡ cond t (f (record { job = i; ticks = ticksOn k s })) 0 + sumOf f (chosen test k (i + 1) ss)
+      go true = refl
+      go false = omega arith
+
+  pub chosen-total : (i : ℕ) (ss : List Share) → total (chosen test k i ss) ≡ sumOf (part test k) ss
+  unfolding chosen
+  chosen-total i [] = refl
+  chosen-total i (s ∷ ss) = omega (arith, chosen-sum (λ (p : Piece). p .ticks) i s ss, chosen-total (i + 1) ss)
+
+  chosen-length : (i : ℕ) (ss : List Share) → length (chosen test k i ss) ≡ countOf test ss
+  unfolding chosen
+  chosen-length i [] = refl
+  chosen-length i (s ∷ ss) = go (test s) (chosen-length (i + 1) ss)
+    where
+      go : (t : Bool) → length (chosen test k (i + 1) ss) ≡ countOf test ss
+          → length (cond t (record { job = i; ticks = ticksOn k s } ∷ chosen test k (i + 1) ss) (chosen test k (i + 1) ss))
+          ≡ cond t 1 0 + countOf test ss
+      go true h = omega arith
+      go false h = omega arith
+
+  chosen-none : (job i : ℕ) (ss : List Share) → job < i → ticksFor job (chosen test k i ss) ≡ 0
+  unfolding chosen
+  chosen-none job i [] h = refl
+  chosen-none job i (s ∷ ss) h =
+      rw (chosen-sum (λ (p : Piece). cond (eqb (p .job) job) (p .ticks) 0) i s ss, ne-eqb i job (λ same. omega arith))
+      (omega (arith, nothing (test s), chosen-none job (i + 1) ss (omega arith)))
+
+  chosen-for : (job i n : ℕ) (ss : List Share) → job ≡ i + n → n < length ss
+      → ticksFor job (chosen test k i ss) ≡ part test k (shareAt ss n)
+  unfolding chosen
+  chosen-for job i n [] e h = absurd (omega arith)
+  chosen-for job i zero (s ∷ ss) e h =
+      rw (chosen-sum (λ (p : Piece). cond (eqb (p .job) job) (p .ticks) 0) i s ss, eq-eqb i job (omega arith))
+      (omega (arith, chosen-none job (i + 1) ss (omega arith)))
+  chosen-for job i (suc n) (s ∷ ss) e h =
+      rw (chosen-sum (λ (p : Piece). cond (eqb (p .job) job) (p .ticks) 0) i s ss, ne-eqb i job (λ same. omega arith))
+      (omega (arith, nothing (test s), chosen-for job (i + 1) n ss (omega arith) (omega arith)))
+
+  pub chosen-at : (P : ℕ → Piece → Type 0) (i o : ℕ) (ss : List Share)
+      → ((n a j : ℕ) → n < length ss → j ≡ i + n → a ≡ o + sumOf (part test k) (take n ss) → test (shareAt ss n) ≡ true
+      → P a (record { job = j; ticks = ticksOn k (shareAt ss n) }))
+      → AllAt P o (chosen test k i ss)
+  unfolding chosen
+  chosen-at P i o [] f = tt
+  chosen-at P i o (s ∷ ss) f =
+      go (test s) refl
+      (λ b e. chosen-at P (i + 1) b ss (λ n a j l ej ea t. f (suc n) a j (omega arith) (omega arith) (omega arith) t))
+    where
+      go : (t : Bool) → test s ≡ t → ((b : ℕ) → b ≡ o + part test k s → AllAt P b (chosen test k (i + 1) ss))
+          → AllAt P o (chosen test k i (s ∷ ss))
+      go true t more = rw t (f zero o i (omega arith) (omega arith) (omega arith) t, more (o + ticksOn k s) (rw t))
+      go false t more = rw t (more o (rw t (omega arith)))
+
+-- ---- the three tests together
+parts-whole : (k : Kind) (w : ℕ) (s : Share)
+    → part (evenMover w) k s + (part (otherMover w) k s + part (alone k) k s) ≡ ticksOn k s
+parts-whole k w s = go (isMover s) (isEven w s) (ltb 0 (ticksOn k s)) refl
+  where
+    go : (m e t : Bool) → ltb 0 (ticksOn k s) ≡ t
+        → cond (m && e) (ticksOn k s) 0 + (cond (m && not e) (ticksOn k s) 0 + cond (t && not m) (ticksOn k s) 0) ≡ ticksOn k s
+    go true true true t = omega arith
+    go true true false t = omega arith
+    go true false true t = omega arith
+    go true false false t = omega arith
+    go false e true t = omega arith
+    go false e false t = omega (arith, ltb-false)
+
+module _ (k : Kind) (w : ℕ) (ss : List Share) where
+  pub pieces-for : (job : ℕ) → job < length ss → ticksFor job (piecesOf k w ss) ≡ ticksOn k (shareAt ss job)
+  unfolding piecesOf
+  pieces-for job h =
+      let at : job ≡ 0 + job = omega arith in
+      simp sum-append
+      (omega (
+        arith,
+        chosen-for (evenMover w) k job 0 job ss at h,
+        chosen-for (otherMover w) k job 0 job ss at h,
+        chosen-for (alone k) k job 0 job ss at h,
+        parts-whole k w (shareAt ss job),
+      ))
+
+  pub pieces-total : total (piecesOf k w ss) ≡ ticksOf k ss
+  unfolding piecesOf
+  pieces-total = simp (sum-append, chosen-total) (sums ss)
+    where
+      sums : (ss : List Share) → sumOf (part (evenMover w) k) ss + (sumOf (part (otherMover w) k) ss + sumOf (part (alone k) k) ss)
+          ≡ ticksOf k ss
+      sums [] = refl
+      sums (s ∷ ss) = omega (arith, parts-whole k w s, sums ss)
+
+  pieces-count : length (piecesOf k w ss) ≡ countOf (evenMover w) ss + (countOf (otherMover w) ss + countOf (alone k) ss)
+  unfolding piecesOf
+  pieces-count = simp (length-append, chosen-length)
+
+-- A job has a piece on a kind, and a mover one more.
+pub pieces-few : (w : ℕ) (ss : List Share) → length (piecesOf First w ss) + length (piecesOf Second w ss) ≤ length ss + movers ss
+pieces-few w ss = rw (pieces-count First w ss, pieces-count Second w ss) (counts ss)
+  where
+    one : (a b e : Bool) → cond (a && b && e) 1 0 + (cond (a && b && not e) 1 0 + cond (a && not (a && b)) 1 0)
+        + (cond (a && b && e) 1 0 + (cond (a && b && not e) 1 0 + cond (b && not (a && b)) 1 0)) ≤ 1 + cond (a && b) 1 0
+    one true true true = omega arith
+    one true true false = omega arith
+    one true false e = omega arith
+    one false true e = omega arith
+    one false false e = omega arith
+
+    counts : (ss : List Share) → countOf (evenMover w) ss + (countOf (otherMover w) ss + countOf (alone First) ss)
+        + (countOf (evenMover w) ss + (countOf (otherMover w) ss + countOf (alone Second) ss)) ≤ length ss + movers ss
+    counts [] = omega arith
+    counts (s ∷ ss) = omega (arith, one (ltb 0 (s .first .0)) (ltb 0 (s .second .0)) (isEven w s), counts ss)

@@ -1,0 +1,5 @@
+pub mod Table
+pub mod Fits
+pub mod Moves
+pub mod Example
+pub mod ExampleMoves

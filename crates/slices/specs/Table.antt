@@ -1,0 +1,64 @@
+-- The table of slices of given shares: document 01, "The slices".
+-- On each kind the shares stand one behind the other, as runs of positions: position p is tick p % W of core p / W on the first kind,
+-- and tick W − 1 − p % W on the second, which is packed backward. A run that passes the edge of a core is cut there.
+--   Piece        a job and its ticks on a kind
+--   piecesOf     the order on a kind: even movers by number, then the other mover, then the jobs with a share on this kind alone
+--   sliceOf      the slice of a job at a place of a core, counted in the kind's direction
+--   cutOf        the one or two slices of a run that begins at a position
+--   packed       the slices of pieces, one behind the other
+--   tableOf      all slices of the first kind, then those of the second
+-- Assumes nothing.
+use mathlib.Core.Bool.{Bool, cond, not, _&&_}
+use mathlib.Core.List.{List, [], _∷_, _++_}
+use Prim.Native.Nat.{ℕ, _+_, _-_, _/_, _%_}
+use lib.Dec.{leb, ltb}
+use Rattle.model.specs.Board.{on}
+use Rattle.model.specs.Movers.{isMover, isEven}
+use Rattle.model.specs.Split.{ticksOn}
+use Rattle.model.specs.declared.Kind.{Kind}
+use Rattle.model.specs.declared.Kind.the-variants.{First, Second}
+use Rattle.model.specs.declared.Share.{Share}
+use Rattle.model.specs.declared.Slice.{Slice}
+
+pub record Piece : Type 0 where
+  pub job : ℕ
+  pub ticks : ℕ
+
+abbrev pub evenMover : ℕ → Share → Bool
+evenMover w s = isMover s && isEven w s
+
+abbrev pub otherMover : ℕ → Share → Bool
+otherMover w s = isMover s && not (isEven w s)
+
+abbrev pub alone : Kind → Share → Bool
+alone k s = ltb 0 (ticksOn k s) && not (isMover s)
+
+-- The jobs, numbered from i, of which a test holds, with their ticks on a kind.
+unfoldable pub chosen : (Share → Bool) → Kind → ℕ → List Share → List Piece
+chosen test k i [] = []
+chosen test k i (s ∷ ss) =
+    let more : List Piece = chosen test k (i + 1) ss in
+    cond (test s) (record { job = i; ticks = ticksOn k s } ∷ more) more
+
+unfoldable pub piecesOf : Kind → ℕ → List Share → List Piece
+piecesOf k w ss = chosen (evenMover w) k 0 ss ++ (chosen (otherMover w) k 0 ss ++ chosen (alone k) k 0 ss)
+
+-- The length begins at a core's place `at`, counted forward on the first kind and backward on the second.
+abbrev pub sliceOf : Kind → (w job core at length : ℕ) → Slice
+sliceOf k w job core at length =
+    record { job = job; kind = k; core = core; start = on k at (w - (at + length)); length = length }
+
+-- The run begins at position o. One that ends exactly on the edge of a core gives one slice.
+unfoldable pub cutOf : Kind → (w o : ℕ) → Piece → List Slice
+cutOf k w o p =
+    let at : ℕ = o % w in
+    let core : ℕ = o / w in
+    cond (leb (at + p .ticks) w) (sliceOf k w (p .job) core at (p .ticks) ∷ [])
+    (sliceOf k w (p .job) core at (w - at) ∷ sliceOf k w (p .job) (core + 1) 0 (p .ticks - (w - at)) ∷ [])
+
+unfoldable pub packed : Kind → (w o : ℕ) → List Piece → List Slice
+packed k w o [] = []
+packed k w o (p ∷ ps) = cutOf k w o p ++ packed k w (o + p .ticks) ps
+
+unfoldable pub tableOf : ℕ → List Share → List Slice
+tableOf w ss = packed First w 0 (piecesOf First w ss) ++ packed Second w 0 (piecesOf Second w ss)
