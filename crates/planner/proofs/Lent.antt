@@ -1,0 +1,169 @@
+-- The promise of the planning call over lent tables, from what it knows of its callees. The walk of `plan` calls `lent` and looks at nothing else of the promise.
+--     read       the array that `jobs_in` makes of the first jobs of a slice
+--     few-fits   as many jobs as `at_most_a_set` gives fit a set, and are there
+--     plan-read  the plan of what was read is the plan of the slice: all of it was read, or it has too many jobs to be looked at
+--     lent       the promise, of the plan by value of the jobs that were read, whose rows were written to both tables
+-- Assumes nothing.
+use mathlib.Core.Path.{_≡_, refl, sym, ap, _∙_}
+use mathlib.Core.Bool.{Bool, true, false, cond, _||_}
+use mathlib.Core.List.{List, _++_}
+use Prim.Native.Nat.{ℕ, _≤_, _<_, min}
+use native.Mathlib.Omega.{arith}
+use borrow.Author.Tests.{leb-true, leb-false, lt-ltb}
+use lib.Dec.{leb, ltb}
+use lib.ListN.{length, take, drop, replicate}
+use lib.Seq.{take-append-seam, take-length}
+use Rattle.model.specs.Board.{roomOf}
+use Rattle.model.specs.Limits.{windowMost, coresMost, jobsMost}
+use Rattle.model.specs.Refusal.{Answer, given, refused, andThen}
+use Rattle.model.specs.declared.Kind.the-variants.{First, Second}
+use Rattle.model.specs.declared.Board.{Board}
+use Rattle.model.specs.declared.Job.{Job}
+use Rattle.model.specs.declared.Share.{Share}
+use Rattle.model.specs.declared.Slice.{Slice}
+use Rattle.legal.specs.Legal.{outside, legalOf}
+use Rattle.slices.specs.Table.{tableOf}
+use Rattle.split.specs.Shares.{splitOf, sharesOf}
+use Rattle.split.proofs.Demands.{demands, exactly}
+use Rattle.planner.specs.Plan.{Plan, Counts, fitted, planOf, sharesIn, slicesIn, countsIn, saysPlanned, front}
+use Rattle.planner.specs.Promise.{Filled, Unchanged, Served, Promised, noJob}
+use Rattle.planner.specs.declared.Planned.{Planned}
+use Rattle.planner.specs.declared.Planned.the-variants.{Plan as Counted, Refused}
+use Rattle.planner.specs.declared.Tables.{Tables}
+use Rattle.planner.proofs.Plans.{plan-kept}
+
+abbrev pub read : List Job → ℕ → List Job
+read js few = take few js ++ drop few (replicate jobsMost noJob)
+
+pub few-fits : (count few : ℕ) → few ≡ min count jobsMost → (few ≤ jobsMost) × (few ≤ count)
+few-fits count few e = (omega (arith, e), omega (arith, e))
+
+-- ---- what was read
+abbrev many : Board → Answer (Unit {0})
+many board =
+    cond (outside windowMost (board .window)) (refused 1 0)
+    (cond (outside coresMost (board .first) || outside coresMost (board .second)) (refused 2 0) (refused 3 jobsMost))
+
+legal-many : (board : Board) (n : ℕ) (js : List Job) → jobsMost < n → legalOf board n js ≡ many board
+unfolding legalOf
+legal-many board n js h = rw (lt-ltb jobsMost n h)
+
+plan-many : (board : Board) (n : ℕ) (xs ys : List Job) (m k : ℕ) → jobsMost < n → planOf board n xs m k ≡ planOf board n ys m k
+plan-many board n xs ys m k h =
+    rw (legal-many board n xs h, legal-many board n ys h)
+    (go (outside windowMost (board .window)) (outside coresMost (board .first) || outside coresMost (board .second)))
+  where
+    made : List Share → Answer Plan
+    made ss = fitted m k (record { shares = ss; slices = tableOf (board .window) ss })
+
+    from : List Job → Unit {0} → Answer (List Share)
+    from js _ = splitOf (board .window) (roomOf board First) (roomOf board Second) js
+
+    go : (s t : Bool)
+        → andThen (andThen (cond s (refused 1 0) (cond t (refused 2 0) (refused 3 jobsMost))) (from xs)) made
+        ≡ andThen (andThen (cond s (refused 1 0) (cond t (refused 2 0) (refused 3 jobsMost))) (from ys)) made
+    go true t = refl
+    go false true = refl
+    go false false = refl
+
+plan-read : (board : Board) (js : List Job) (m k few : ℕ) → few ≡ min (length js) jobsMost
+    → planOf board (length js) (take (length js) (read js few)) m k ≡ planOf board (length js) js m k
+plan-read board js m k few e = go (leb (length js) jobsMost) refl
+  where
+    go : (t : Bool) → leb (length js) jobsMost ≡ t
+        → planOf board (length js) (take (length js) (read js few)) m k ≡ planOf board (length js) js m k
+    go true t =
+        let all : few ≡ length js = omega (arith, leb-true (length js) jobsMost t) in
+        ap (λ (xs : List Job). planOf board (length js) xs m k)
+        (rw (all, take-length js) (take-append-seam js (drop (length js) (replicate jobsMost noJob))))
+    go false t = plan-many board (length js) _ js m k (leb-false _ _ t)
+
+-- ---- the demands
+never : {A : Type 0} → _≡_ {A = ℕ} 0 1 → A
+never z = absurd (omega arith)
+
+module _ (board : Board) (js : List Job) (ss ss′ : List Share) (ls ls′ : List Slice) where
+  -- A refusal leaves both tables as they were, and a plan keeps demand 2.
+  abbrev Stands : Planned → Type 0
+  Stands r = Unchanged r ss ss′ ls ls′ × Served board js r ss′ ls′
+
+  stands : (r : Planned) (x : Answer Plan) → planOf board (length js) js (length ss) (length ls) ≡ x → saysPlanned r ≡ countsIn x
+      → ss′ ≡ front (sharesIn x) ss → ls′ ≡ front (slicesIn x) ls → Stands r
+  stands (Counted jobs slices) (given p) is says shares-are slices-are =
+      let counts : _≡_ {A = Counts} (record { jobs = jobs; slices = slices }) (record { jobs = length (p .shares); slices = length (p .slices) }) = cc in
+      let a : take jobs ss′ ≡ p .shares = rw (shares-are, ap (λ (c : Counts). c .jobs) counts) (take-append-seam (p .shares) _) in
+      let b : take slices ls′ ≡ p .slices = rw (slices-are, ap (λ (c : Counts). c .slices) counts) (take-append-seam (p .slices) _) in
+      (tt, rw (a, b) (plan-kept board (length js) js (length ss) (length ls) is))
+  stands (Counted jobs slices) (refused number place) is says shares-are slices-are = never (cc)
+  stands (Refused r) (given p) is says shares-are slices-are = never (cc)
+  stands (Refused r) (refused number place) is says shares-are slices-are = ((shares-are, slices-are), tt)
+
+-- A plan is refused for room where its shares are.
+module _ (board : Board) (n : ℕ) (js : List Job) (m k : ℕ) where
+  abbrev made : List Share → Answer Plan
+  made ss = fitted m k (record { shares = ss; slices = tableOf (board .window) ss })
+
+  plan-room : countsIn (planOf board n js m k) ≡ refused 6 0 → sharesOf board n js ≡ refused 6 0
+  plan-room e = go (sharesOf board n js) refl e
+    where
+      fits : (ss : List Share) (t : Bool)
+          → countsIn (cond t (refused 7 0) (given (record { shares = ss; slices = tableOf (board .window) ss }))) ≡ refused 6 0 → ⊥
+      fits ss true e = let z : _≡_ {A = ℕ} 7 6 = cc in omega arith
+      fits ss false e = never (cc)
+
+      go : (x : Answer (List Share)) → sharesOf board n js ≡ x → countsIn (andThen x made) ≡ refused 6 0 → sharesOf board n js ≡ refused 6 0
+      go (given ss) is e = absurd (fits ss (ltb m (length ss) || ltb k (length (tableOf (board .window) ss))) e)
+      go (refused number place) is e = is ∙ cc
+
+  room-plan : sharesOf board n js ≡ refused 6 0 → countsIn (planOf board n js m k) ≡ refused 6 0
+  room-plan e = ap (λ (x : Answer (List Share)). countsIn (andThen x made)) e
+
+pub lent : (board : Board) (js : List Job) (ss ss′ : List Share) (ls ls′ : List Slice) (few : ℕ) (set : List Job) (t : Tables)
+    → few ≡ min (length js) jobsMost → set ≡ read js few → Filled board (length js) (take (length js) set) (length ss) (length ls) t
+    → ss′ ≡ take (t .shared) (t .shares) ++ drop (t .shared) ss → ls′ ≡ take (t .sliced) (t .slices) ++ drop (t .sliced) ls
+    → Promised board js ss ls (t .planned) ss′ ls′
+lent board js ss ss′ ls ls′ few set t few-is set-is filled shares-are slices-are =
+    record {
+      answer = answer;
+      shares = shares;
+      slices = slices;
+      demand1 = both .0;
+      demand2 = both .1;
+      demand3 =
+          record {
+            only = λ e. rw (plan-room board n js m k (sym answer ∙ e)) at (demands board n js) refl;
+            exactly = λ legal none₁ none₂.
+                let iff = exactly board n js legal none₁ none₂ in
+                (λ e. iff .0 (plan-room board n js m k (sym answer ∙ e)), λ none. answer ∙ room-plan board n js m k (iff .1 none));
+          };
+    }
+  where
+    n : ℕ
+    n = length js
+
+    m : ℕ
+    m = length ss
+
+    k : ℕ
+    k = length ls
+
+    same : planOf board n (take n set) m k ≡ planOf board n js m k
+    same = ap (λ (l : List Job). planOf board n (take n l) m k) set-is ∙ plan-read board js m k few few-is
+
+    answer : saysPlanned (t .planned) ≡ countsIn (planOf board n js m k)
+    answer = filled .says ∙ ap countsIn same
+
+    shares : ss′ ≡ front (sharesIn (planOf board n js m k)) ss
+    shares =
+        shares-are ∙
+        rw (filled .shares, filled .shared, take-append-seam (sharesIn (planOf board n (take n set) m k)) _)
+        (ap (λ (x : Answer Plan). front (sharesIn x) ss) same)
+
+    slices : ls′ ≡ front (slicesIn (planOf board n js m k)) ls
+    slices =
+        slices-are ∙
+        rw (filled .slices, filled .sliced, take-append-seam (slicesIn (planOf board n (take n set) m k)) _)
+        (ap (λ (x : Answer Plan). front (slicesIn x) ls) same)
+
+    both : Stands board js ss ss′ ls ls′ (t .planned)
+    both = stands board js ss ss′ ls ls′ (t .planned) (planOf board n js m k) refl answer shares slices

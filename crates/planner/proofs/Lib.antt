@@ -1,0 +1,9 @@
+pub mod Copied
+pub mod CopyRows
+pub mod Fields
+pub mod Slot
+pub mod Filling
+pub mod Rows
+pub mod Plans
+pub mod Moving
+pub mod Lent

@@ -1,0 +1,187 @@
+-- The plan of a set: what is known of its shares lets them be placed, and a plan keeps demand 2. Assumes nothing.
+--   accepted-fits   accepted shares fit the board, so that their table is a timetable
+--   table-asks      what the code asks before it places them
+--   filled-none, filled-fit   the tables of a refusal and of a plan are those of the definition
+--   plan-shares     a plan is made of the shares that are given, and plan-kept: it keeps demand 2
+use mathlib.Core.Path.{_≡_, refl, sym, ap, _∙_}
+use mathlib.Core.Bool.{Bool, true, false, cond, _||_}
+use mathlib.Core.List.{List, [], _∷_, _++_}
+use Prim.Native.Nat.{ℕ, _+_, _-_, _*_, _≤_}
+use native.Mathlib.Nat.{mul-le-mul-right}
+use native.Mathlib.Omega.{arith}
+use borrow.Author.Tests.{ltb-false}
+use lib.Dec.{ltb}
+use lib.ListN.{length, take, drop, replicate, take-append-drop}
+use lib.Seq.{length-take-le}
+use Rattle.model.specs.Board.{roomOf}
+use Rattle.model.specs.Limits.{jobsMost, slicesMost}
+use Rattle.model.specs.Lists.{All}
+use Rattle.model.specs.Refusal.{Answer, given, refused, saysRefusal, andThen}
+use Rattle.model.specs.Split.{share, Do}
+use Rattle.model.specs.declared.Kind.{Kind}
+use Rattle.model.specs.declared.Kind.the-variants.{First, Second}
+use Rattle.model.specs.declared.Board.{Board}
+use Rattle.model.specs.declared.Job.{Job}
+use Rattle.model.specs.declared.Job.the-variants.{Both, OnlyFirst, OnlySecond}
+use Rattle.model.specs.declared.Refusal.{Refusal}
+use Rattle.model.specs.declared.Refusal.the-variants.{Space}
+use Rattle.model.specs.declared.Share.{Share}
+use Rattle.legal.specs.Lawful.{Lawful}
+use Rattle.legal.specs.Legal.{legalOf}
+use Rattle.legal.proofs.Lawful.{legal-lawful}
+use Rattle.slices.specs.Fits.{Fits}
+use Rattle.slices.specs.Table.{tableOf}
+use Rattle.slices.proofs.Counts.{table-few}
+use Rattle.slices.proofs.Timetabled.{table-timetable}
+use Rattle.split.specs.Promise.{Accepted}
+use Rattle.split.specs.Shares.{splitOf, sharesOf}
+use Rattle.split.proofs.Demands.{demands}
+use Rattle.planner.specs.Place.{noSlice, TableAsks, Tabled}
+use Rattle.planner.specs.Plan.{Plan, fitted, planOf, sharesIn, slicesIn, countsIn, noTables, fitOf}
+use Rattle.planner.specs.Promise.{Filled, Kept}
+use Rattle.planner.specs.declared.place.Packing.{Packing}
+
+-- ---- accepted shares
+abbrev Each : ℕ → List Share → Type 0
+Each w ss = All (λ (s : Share). s .first .0 + s .second .0 ≤ w) ss
+
+do-each : (w : ℕ) (js : List Job) (ss : List Share) → Do w 1 js ss → Each w ss
+do-each w [] [] d = tt
+do-each w [] (s ∷ ss) d = absurd d
+do-each w (j ∷ js) [] d = absurd d
+do-each w (Both c1 c2 ∷ js) (s ∷ ss) d = (omega arith, do-each w js ss (d .1))
+do-each w (OnlyFirst c1 ∷ js) (s ∷ ss) d = (omega arith, do-each w js ss (d .1))
+do-each w (OnlySecond c2 ∷ js) (s ∷ ss) d = (omega arith, do-each w js ss (d .1))
+
+pub do-length : (w : ℕ) (js : List Job) (ss : List Share) → Do w 1 js ss → length ss ≡ length js
+do-length w [] [] d = refl
+do-length w [] (s ∷ ss) d = absurd d
+do-length w (j ∷ js) [] d = absurd d
+do-length w (j ∷ js) (s ∷ ss) d = omega (arith, do-length w js ss (d .1))
+
+module _ (board : Board) (n : ℕ) (js : List Job) where
+  -- Shares are given of legal sets alone.
+  pub shares-lawful : {ss : List Share} → sharesOf board n js ≡ given ss → Lawful board n js
+  shares-lawful {ss} e = go (legalOf board n js) refl e
+    where
+      go : (x : Answer (Unit {0})) → legalOf board n js ≡ x
+          → andThen x (λ _. splitOf (board .window) (roomOf board First) (roomOf board Second) js) ≡ given ss → Lawful board n js
+      go (given _) legal e = legal-lawful board n js legal
+      go (refused number place) legal e = let z : _≡_ {A = ℕ} 0 1 = cc in absurd (omega arith)
+
+  pub shares-accepted : {ss : List Share} → sharesOf board n js ≡ given ss → Accepted board js ss
+  shares-accepted e = rw e at (demands board n js)
+
+  module _ (ss : List Share) (law : Lawful board n js) (ok : Accepted board js ss) where
+    pub accepted-fits : Fits board ss
+    accepted-fits =
+        record {
+          some = law .window-some;
+          each = do-each (board .window) js ss (ok .whole .does);
+          within = within;
+          one-uneven = ok .one-uneven;
+        }
+      where
+        within : (k : Kind) → Rattle.model.specs.Split.ticksOf k ss ≤ roomOf board k
+        within First = ok .whole .within1
+        within Second = ok .whole .within2
+
+    pub accepted-few : length (tableOf (board .window) ss) + 2 ≤ length js + 2 * (board .first + board .second)
+    accepted-few =
+        omega (arith, table-few board ss accepted-fits (law .first-some) (law .second-some), do-length (board .window) js ss (ok .whole .does))
+
+    kept : Kept board js ss (tableOf (board .window) ss)
+    kept = record { whole = ok .whole; timetable = table-timetable board ss accepted-fits; few = accepted-few }
+
+  -- What the code asks before it places the first shares of an array.
+  pub table-asks : (shares : List Share) (count : ℕ) → length js ≤ jobsMost → count ≤ jobsMost → sharesOf board n js ≡ given (take count shares)
+      → TableAsks (board .window) count shares
+  table-asks shares count short few e =
+      let ss = take count shares in
+      let law = shares-lawful e in
+      let ok = shares-accepted e in
+      record {
+        sized = record {
+          some = law .window-some;
+          short = law .window-most;
+          few = few;
+          each = do-each (board .window) js ss (ok .whole .does);
+        };
+        within1 = omega (arith, ok .whole .within1, mul-le-mul-right (board .window) (law .first-most));
+        within2 = omega (arith, ok .whole .within2, mul-le-mul-right (board .window) (law .second-most));
+        rows = omega (arith, accepted-few ss law ok, law .first-most, law .second-most);
+      }
+
+  module _ (m k : ℕ) where
+    -- A plan is made of the shares that are given.
+    pub plan-shares : {p : Plan} → planOf board n js m k ≡ given p
+        → (sharesOf board n js ≡ given (p .shares)) × (p .slices ≡ tableOf (board .window) (p .shares))
+    plan-shares {p} e = go (sharesOf board n js) refl e
+      where
+        Made : Type 0
+        Made = (sharesOf board n js ≡ given (p .shares)) × (p .slices ≡ tableOf (board .window) (p .shares))
+
+        one : (ss : List Share) → sharesOf board n js ≡ given ss → (t : Bool)
+            → cond t (refused 7 0) (given (record { shares = ss; slices = tableOf (board .window) ss })) ≡ given p → Made
+        one ss is true e = let z : _≡_ {A = ℕ} 0 1 = cc in absurd (omega arith)
+        one ss is false e =
+            let same : _≡_ {A = Plan} (record { shares = ss; slices = tableOf (board .window) ss }) p = cc in
+            (is ∙ ap (λ (q : Plan). given (q .shares)) same, sym (ap (λ (q : Plan). q .slices) same) ∙ ap (λ (q : Plan). tableOf (board .window) (q .shares)) same)
+
+        go : (x : Answer (List Share)) → sharesOf board n js ≡ x
+            → andThen x (λ (ss : List Share). fitted m k (record { shares = ss; slices = tableOf (board .window) ss })) ≡ given p → Made
+        go (given ss) is e = one ss is (ltb m (length ss) || ltb k (length (tableOf (board .window) ss))) e
+        go (refused number place) is e = let z : _≡_ {A = ℕ} 0 1 = cc in absurd (omega arith)
+
+    pub plan-kept : {p : Plan} → planOf board n js m k ≡ given p → Kept board js (p .shares) (p .slices)
+    plan-kept {p} e =
+        let made = plan-shares e in
+        rw (made .1) (kept (p .shares) (shares-lawful (made .0)) (shares-accepted (made .0)))
+
+    -- ---- the code's tables
+    pub filled-none : (r : Refusal) → saysRefusal r ≡ planOf board n js m k → Filled board n js m k (noTables r)
+    filled-none r e =
+        record {
+          says = ap countsIn e;
+          shared = ap (λ (x : Answer Plan). length (sharesIn x)) e;
+          sliced = ap (λ (x : Answer Plan). length (slicesIn x)) e;
+          shares = ap (λ (x : Answer Plan). sharesIn x ++ replicate jobsMost (share 0 0)) e;
+          slices = ap (λ (x : Answer Plan). slicesIn x ++ replicate slicesMost noSlice) e;
+          few-shares = omega arith;
+          fit-shares = omega arith;
+          few-slices = omega arith;
+          fit-slices = omega arith;
+        }
+
+    module _ (shares : List Share) (count : ℕ) (table : Packing) (full : length shares ≡ jobsMost) (few : count ≤ jobsMost)
+        (rest : drop count shares ≡ replicate (jobsMost - count) (share 0 0)) (is : sharesOf board n js ≡ given (take count shares))
+        (tabled : Tabled (board .window) (take count shares) table) (short : table .count ≤ slicesMost) where
+      abbrev made : Plan
+      made = record { shares = take count shares; slices = tableOf (board .window) (take count shares) }
+
+      size : length (take count shares) ≡ count
+      size = length-take-le count shares (omega arith)
+
+      plan-is : planOf board n js m k ≡ cond (ltb m count || ltb k (table .count)) (refused 7 0) (given made)
+      plan-is = rw (is, size, ← tabled .count)
+
+      pub filled-fit : Filled board n js m k (fitOf shares count table m k)
+      filled-fit = go (ltb m count) (ltb k (table .count)) refl refl plan-is
+        where
+          go : (s t : Bool) → ltb m count ≡ s → ltb k (table .count) ≡ t → planOf board n js m k ≡ cond (s || t) (refused 7 0) (given made)
+              → Filled board n js m k (cond (s || t) (noTables Space)
+              (record { planned = Rattle.planner.specs.declared.Planned.the-variants.Plan count (table .count); shares = shares; shared = count; slices = table .rows; sliced = table .count }))
+          go true t a b e = filled-none Space (sym e)
+          go false true a b e = filled-none Space (sym e)
+          go false false a b e =
+              record {
+                says = sym (ap countsIn e ∙ rw (size, ← tabled .count));
+                shared = sym (ap (λ (x : Answer Plan). length (sharesIn x)) e ∙ size);
+                sliced = tabled .count ∙ sym (ap (λ (x : Answer Plan). length (slicesIn x)) e);
+                shares = sym (ap (λ (x : Answer Plan). sharesIn x ++ replicate (jobsMost - count) (share 0 0)) e ∙ ap (λ (l : List Share). take count shares ++ l) (sym rest) ∙ take-append-drop count shares);
+                slices = tabled .rows ∙ sym (ap (λ (x : Answer Plan). slicesIn x ++ replicate (slicesMost - table .count) noSlice) e);
+                few-shares = few;
+                fit-shares = ltb-false _ _ a;
+                few-slices = short;
+                fit-slices = ltb-false _ _ b;
+              }

@@ -1,0 +1,5 @@
+pub mod Place
+pub mod Plan
+pub mod Promise
+pub mod Moving
+pub mod Most

@@ -1,0 +1,31 @@
+-- A set whose plan has as many slices as any can have: 64 jobs on 8 and 8 cores, 94 slices.
+-- Assumes nothing.
+use mathlib.Core.List.{List, _∷_, _++_}
+use mathlib.Core.Path.{_≡_, refl}
+use Prim.Native.Nat.{ℕ}
+use lib.ListN.{length, replicate}
+use Rattle.model.specs.Limits.{jobsMost, slicesMost}
+use Rattle.model.specs.declared.Board.{Board}
+use Rattle.model.specs.declared.Job.{Job}
+use Rattle.model.specs.declared.Job.the-variants.{Both, OnlyFirst, OnlySecond}
+use Rattle.legal.specs.Legal.{lowest, legalOf}
+use Rattle.split.specs.Home.{atHome, keepOf, giveOf}
+use Rattle.split.specs.Shares.{settled, byOver}
+use Rattle.split.specs.Steps.{better, nextFrom, movedOf, stepOf, stepsOf}
+use Rattle.slices.specs.Table.{chosen, piecesOf, cutOf, packed, tableOf}
+use Rattle.planner.specs.Plan.{planOf, slicesIn}
+
+abbrev board : Board
+board = record { window = 1000; first = 8; second = 8 }
+
+abbrev both : ℕ → ℕ → Job
+both a b = Both (record { 0 = a }) (record { 0 = b })
+
+abbrev jobs : List Job
+jobs =
+    replicate 15 (both 800 1338)
+    ++ both 400 900 ∷ (replicate 24 (OnlyFirst (record { 0 = 10 })) ++ replicate 24 (OnlySecond (record { 0 = 5 })))
+
+pub most-slices : length (slicesIn (planOf board jobsMost jobs jobsMost slicesMost)) ≡ slicesMost
+unfolding lowest legalOf atHome keepOf giveOf better nextFrom movedOf stepOf stepsOf settled byOver chosen piecesOf cutOf packed tableOf
+most-slices = refl

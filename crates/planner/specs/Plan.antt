@@ -1,0 +1,80 @@
+-- The plan of a set: its shares, and the table of slices that they give. Refusals 1 to 6, then 7.
+--   Plan         the shares of the jobs, and the table
+--   fitted       refusal 7 where a lent table has too few rows
+--   planOf       the plan of any set, for tables of m shares and k slices
+--   sharesIn, slicesIn   the rows to be written: none where the set is refused
+--   countsIn     what the planning call answers: the counts of both
+--   saysPlanned  what the code's answer says, in document 01's terms
+--   noTables, fitOf      the code's tables of a refusal, and of shares and a table of slices that may have too many rows
+--   front        a lent table with new rows at its front: the others stay as they were
+-- Assumes nothing.
+use mathlib.Core.Bool.{cond, _||_}
+use mathlib.Core.List.{List, [], _++_}
+use Prim.Native.Nat.{ℕ}
+use lib.Dec.{ltb}
+use lib.ListN.{length, drop, replicate}
+use Rattle.model.specs.Limits.{jobsMost, slicesMost}
+use Rattle.model.specs.Refusal.{Answer, given, refused, saysRefusal, andThen}
+use Rattle.model.specs.Split.{share}
+use Rattle.model.specs.declared.Board.{Board}
+use Rattle.model.specs.declared.Job.{Job}
+use Rattle.model.specs.declared.Refusal.{Refusal}
+use Rattle.model.specs.declared.Refusal.the-variants.{Space}
+use Rattle.model.specs.declared.Share.{Share}
+use Rattle.model.specs.declared.Slice.{Slice}
+use Rattle.slices.specs.Table.{tableOf}
+use Rattle.split.specs.Shares.{sharesOf}
+use Rattle.planner.specs.Place.{noSlice}
+use Rattle.planner.specs.declared.place.Packing.{Packing}
+use Rattle.planner.specs.declared.Tables.{Tables}
+use Rattle.planner.specs.declared.Planned.{Planned}
+use Rattle.planner.specs.declared.Planned.the-variants.{Plan as Counted, Refused}
+
+pub record Plan : Type 0 where
+  pub shares : List Share
+  pub slices : List Slice
+
+abbrev pub fitted : (m k : ℕ) → Plan → Answer Plan
+fitted m k p = cond (ltb m (length (p .shares)) || ltb k (length (p .slices))) (refused 7 0) (given p)
+
+abbrev pub planOf : Board → ℕ → List Job → (m k : ℕ) → Answer Plan
+planOf board n js m k =
+    andThen (sharesOf board n js) (λ (ss : List Share). fitted m k (record { shares = ss; slices = tableOf (board .window) ss }))
+
+abbrev pub sharesIn : Answer Plan → List Share
+sharesIn (given p) = p .shares
+sharesIn (refused number place) = []
+
+abbrev pub slicesIn : Answer Plan → List Slice
+slicesIn (given p) = p .slices
+slicesIn (refused number place) = []
+
+pub record Counts : Type 0 where
+  pub jobs : ℕ
+  pub slices : ℕ
+
+abbrev pub countsIn : Answer Plan → Answer Counts
+countsIn (given p) = given (record { jobs = length (p .shares); slices = length (p .slices) })
+countsIn (refused number place) = refused number place
+
+abbrev pub saysPlanned : Planned → Answer Counts
+saysPlanned (Counted jobs slices) = given (record { jobs = jobs; slices = slices })
+saysPlanned (Refused r) = saysRefusal r
+
+abbrev pub noTables : Refusal → Tables
+noTables r =
+    record {
+      planned = Refused r;
+      shares = replicate jobsMost (share 0 0);
+      shared = 0;
+      slices = replicate slicesMost noSlice;
+      sliced = 0;
+    }
+
+abbrev pub fitOf : (shares : List Share) (n : ℕ) (table : Packing) (m k : ℕ) → Tables
+fitOf shares n table m k =
+    cond (ltb m n || ltb k (table .count)) (noTables Space)
+    (record { planned = Counted n (table .count); shares = shares; shared = n; slices = table .rows; sliced = table .count })
+
+abbrev pub front : {A : Type 0} → List A → List A → List A
+front new old = new ++ drop (length new) old

@@ -1,0 +1,73 @@
+-- What the planning call promises.
+--   noJob, noSlice   what stands in rows that are not used
+--   Filled       the plan by value: the answer, and every row of both tables
+--   Unchanged    demand 1: a refusal changes no row of the lent tables
+--   Served       demand 2: the shares are a split in whole ticks, and the rows are a timetable of them
+--   ForRoom      demand 3: a refusal for room, and when exactly it is given
+--   Promised     the lent planning call: the answer, every row of both tables, and the three demands in their own words
+-- Assumes nothing.
+use mathlib.Core.List.{List, _++_}
+use mathlib.Core.Logic.{_↔_}
+use mathlib.Core.Path.{_≡_}
+use Prim.Native.Nat.{ℕ, _+_, _-_, _*_, _≤_}
+use lib.ListN.{length, take, replicate}
+use Rattle.model.specs.Board.{roomOf}
+use Rattle.model.specs.Limits.{jobsMost, slicesMost}
+use Rattle.model.specs.Refusal.{given, refused}
+use Rattle.model.specs.Split.{share, Whole}
+use Rattle.model.specs.Timetable.{Timetable}
+use Rattle.model.specs.declared.Kind.the-variants.{First, Second}
+use Rattle.model.specs.declared.Board.{Board}
+use Rattle.model.specs.declared.Job.{Job}
+use Rattle.model.specs.declared.Job.the-variants.{OnlyFirst}
+use Rattle.model.specs.declared.Share.{Share}
+use Rattle.model.specs.declared.Slice.{Slice}
+use Rattle.legal.specs.Legal.{legalOf}
+use Rattle.split.specs.Promise.{SplitOn, SmallerSplit, stretchedOn}
+use Rattle.planner.specs.Plan.{planOf, sharesIn, slicesIn, countsIn, saysPlanned, front}
+use Rattle.planner.specs.Place.{noSlice}
+use Rattle.planner.specs.declared.Planned.{Planned}
+use Rattle.planner.specs.declared.Planned.the-variants.{Plan, Refused}
+use Rattle.planner.specs.declared.Tables.{Tables}
+
+abbrev pub noJob : Job
+noJob = OnlyFirst (record { 0 = 0 })
+
+-- For tables of m shares and k slices. Rows that the plan does not have are zero.
+pub record Filled (board : Board) (n : ℕ) (js : List Job) (m k : ℕ) (t : Tables) : Type 0 where
+  pub says : saysPlanned (t .planned) ≡ countsIn (planOf board n js m k)
+  pub shared : t .shared ≡ length (sharesIn (planOf board n js m k))
+  pub sliced : t .sliced ≡ length (slicesIn (planOf board n js m k))
+  pub shares : t .shares ≡ sharesIn (planOf board n js m k) ++ replicate (jobsMost - t .shared) (share 0 0)
+  pub slices : t .slices ≡ slicesIn (planOf board n js m k) ++ replicate (slicesMost - t .sliced) noSlice
+  pub few-shares : t .shared ≤ jobsMost
+  pub fit-shares : t .shared ≤ m
+  pub few-slices : t .sliced ≤ slicesMost
+  pub fit-slices : t .sliced ≤ k
+
+abbrev pub Unchanged : Planned → (ss ss′ : List Share) → (ls ls′ : List Slice) → Type 0
+Unchanged (Plan jobs slices) ss ss′ ls ls′ = Unit {0}
+Unchanged (Refused r) ss ss′ ls ls′ = (ss′ ≡ ss) × (ls′ ≡ ls)
+
+pub record Kept (board : Board) (js : List Job) (ss : List Share) (rows : List Slice) : Type 0 where
+  pub whole : Whole (board .window) (roomOf board First) (roomOf board Second) js ss
+  pub timetable : Timetable board ss rows
+  pub few : length rows + 2 ≤ length js + 2 * (board .first + board .second)
+
+abbrev pub Served : Board → List Job → Planned → List Share → List Slice → Type 0
+Served board js (Plan jobs slices) ss′ ls′ = Kept board js (take jobs ss′) (take slices ls′)
+Served board js (Refused r) ss′ ls′ = Unit {0}
+
+pub record ForRoom (board : Board) (js : List Job) (r : Planned) : Type 0 where
+  pub only : saysPlanned r ≡ refused 6 0 → SmallerSplit board js → ⊥
+  pub exactly : legalOf board (length js) js ≡ given tt → stretchedOn board js First ≡ 0 → stretchedOn board js Second ≡ 0
+      → (saysPlanned r ≡ refused 6 0) ↔ (SplitOn board js → ⊥)
+
+-- The jobs js, and tables that held ss and ls, and hold ss′ and ls′ after the call.
+pub record Promised (board : Board) (js : List Job) (ss : List Share) (ls : List Slice) (r : Planned) (ss′ : List Share) (ls′ : List Slice) : Type 0 where
+  pub answer : saysPlanned r ≡ countsIn (planOf board (length js) js (length ss) (length ls))
+  pub shares : ss′ ≡ front (sharesIn (planOf board (length js) js (length ss) (length ls))) ss
+  pub slices : ls′ ≡ front (slicesIn (planOf board (length js) js (length ss) (length ls))) ls
+  pub demand1 : Unchanged r ss ss′ ls ls′
+  pub demand2 : Served board js r ss′ ls′
+  pub demand3 : ForRoom board js r
