@@ -1,0 +1,54 @@
+-- The text of a plan: its length, and that its lines are stored one kind behind the other. The one idea: lines that are joined are joined texts.
+-- Assumes nothing.
+use mathlib.Core.Bool.{Bool, true, false}
+use mathlib.Core.Path.{_≡_, refl, _∙_, sym}
+use mathlib.Core.List.{List, [], _∷_, _++_, map, append-assoc}
+use Prim.Native.Nat.{ℕ, _+_, _*_, min}
+use native.Mathlib.Omega.{arith}
+use borrow.Author.Tests.{leb-true, leb-false}
+use lib.Dec.{leb}
+use lib.ListN.{length, take, length-append}
+use lib.Seq.{sets, take-all}
+use Rattle.model.specs.declared.Share.{Share}
+use Rattle.model.specs.declared.Slice.{Slice}
+use Rattle.text.specs.Hex.{digitsOf, lineOf, textOf}
+use Rattle.text.specs.Output.{countRecord, shareRecords, sliceRecord, planText}
+use Rattle.text.proofs.Stores.{sets-append, text-more}
+
+text-append : (rs qs : List (List ℕ)) → textOf (rs ++ qs) ≡ textOf rs ++ textOf qs
+unfolding textOf
+text-append [] qs = refl
+text-append (r ∷ rs) qs = rw (text-append rs qs) (sym (append-assoc (lineOf r) (textOf rs) (textOf qs)))
+
+shares-length : (i : ℕ) (ss : List Share) → length (textOf (shareRecords i ss)) ≡ 13 * length ss
+unfolding digitsOf textOf shareRecords
+shares-length i [] = refl
+shares-length i (s ∷ ss) = omega (arith, shares-length (i + 1) ss)
+
+slices-length : (rows : List Slice) → length (textOf (map sliceRecord rows)) ≡ 17 * length rows
+unfolding digitsOf textOf
+slices-length [] = refl
+slices-length (s ∷ rows) = omega (arith, slices-length rows)
+
+-- of so many shares and rows
+module _ (ss : List Share) (rows : List Slice) (n k : ℕ) (n-long : length ss ≡ n) (k-long : length rows ≡ k) where
+  pub plan-length : length (planText ss rows) ≡ 7 + 13 * n + 17 * k
+  unfolding digitsOf textOf
+  plan-length =
+      rw (text-append (shareRecords 0 ss) (map sliceRecord rows), length-append (textOf (shareRecords 0 ss)))
+      (omega (arith, shares-length 0 ss, slices-length rows))
+
+  pub plan-stored : (t : List ℕ)
+      → sets (sets (sets t 0 (lineOf (countRecord n k))) 7 (textOf (shareRecords 0 ss))) (7 + 13 * n) (textOf (map sliceRecord rows)) ≡ sets t 0 (planText ss rows)
+  unfolding digitsOf
+  plan-stored t =
+      rw (← n-long, ← k-long, ← shares-length 0 ss)
+      (sym (sets-append (sets t 0 (lineOf (countRecord (length ss) (length rows)))) 7 (textOf (shareRecords 0 ss)) (textOf (map sliceRecord rows)))
+      ∙ rw (← text-append (shareRecords 0 ss) (map sliceRecord rows)) (text-more t 0 (countRecord (length ss) (length rows)) (shareRecords 0 ss ++ map sliceRecord rows)))
+
+-- a count above all of a list counts as all
+pub take-most : {A : Type 0} (l : List A) (n m : ℕ) → length l ≡ m → take (min n m) l ≡ take n l
+take-most {A} l n m e = go (leb n m) refl where
+  go : (t : Bool) → leb n m ≡ t → take (min n m) l ≡ take n l
+  go true h = let same : min n m ≡ n = omega (arith, leb-true n m h) in rw same
+  go false h = rw (take-all (min n m) l (omega (arith, leb-false n m h)), take-all n l (omega (arith, leb-false n m h)))

@@ -1,0 +1,66 @@
+-- The output: the lines of a plan, or of a refusal. Document 01, "The text".
+--   planRecords      10 with the counts, 11 for each job, 12 for each slice in the table's order
+--   refusedRecords   1f with the number and the place
+--   planText, refusedText    the same as bytes of a text; refusalText by the code's refusal
+--   written          a lent text with bytes at its front
+--   saysWritten      what the code's answer says: the count of the bytes written, or refusal 7
+--   Writes           what a writer promises: its answer, and every byte of the lent text
+-- Assumes nothing.
+use mathlib.Core.Bool.{cond}
+use mathlib.Core.List.{List, [], _∷_, _++_, map}
+use mathlib.Core.Path.{_≡_}
+use Prim.Native.Nat.{ℕ, _+_}
+use lib.Dec.{ltb}
+use lib.ListN.{length, drop}
+use Rattle.model.specs.Board.{on}
+use Rattle.model.specs.Refusal.{Answer, given, refused, saysRefusal, numberOf, placeOf}
+use Rattle.model.specs.declared.Refusal.{Refusal}
+use Rattle.model.specs.declared.Share.{Share}
+use Rattle.model.specs.declared.Slice.{Slice}
+use Rattle.text.specs.Hex.{two, textOf}
+use Rattle.text.specs.declared.Written.{Written}
+use Rattle.text.specs.declared.Written.the-variants.{Bytes, Full}
+
+abbrev pub countRecord : (jobs slices : ℕ) → List ℕ
+countRecord jobs slices = 16 ∷ jobs ∷ slices ∷ []
+
+abbrev pub shareRecord : ℕ → Share → List ℕ
+shareRecord job s = 17 ∷ job ∷ (two (s .first .0) ++ two (s .second .0))
+
+abbrev pub sliceRecord : Slice → List ℕ
+sliceRecord s = 18 ∷ s .job ∷ on (s .kind) 1 2 ∷ s .core ∷ (two (s .start) ++ two (s .length))
+
+unfoldable pub shareRecords : ℕ → List Share → List (List ℕ)
+shareRecords i [] = []
+shareRecords i (s ∷ ss) = shareRecord i s ∷ shareRecords (i + 1) ss
+
+abbrev pub planRecords : List Share → List Slice → List (List ℕ)
+planRecords ss rows = countRecord (length ss) (length rows) ∷ (shareRecords 0 ss ++ map sliceRecord rows)
+
+abbrev pub refusedRecords : (number place : ℕ) → List (List ℕ)
+refusedRecords number place = (31 ∷ number ∷ place ∷ []) ∷ []
+
+abbrev pub planText : List Share → List Slice → List ℕ
+planText ss rows = textOf (planRecords ss rows)
+
+abbrev pub refusedText : (number place : ℕ) → List ℕ
+refusedText number place = textOf (refusedRecords number place)
+
+abbrev pub refusalText : Refusal → List ℕ
+refusalText r = refusedText (numberOf r) (placeOf r)
+
+-- Refusal 7 where a text is shorter than what is to be written, and then no byte changes. Bytes past the lines stay.
+abbrev pub writes : (text new : List ℕ) → Answer ℕ
+writes text new = cond (ltb (length text) (length new)) (refused 7 0) (given (length new))
+
+abbrev pub written : (text new : List ℕ) → List ℕ
+written text new = cond (ltb (length text) (length new)) text (new ++ drop (length new) text)
+
+abbrev pub saysWritten : Written → Answer ℕ
+saysWritten (Bytes n) = given n
+saysWritten (Full r) = saysRefusal r
+
+-- A lent text before and after the lines were written.
+pub record Writes (before after lines : List ℕ) (r : Written) : Type 0 where
+  pub says : saysWritten r ≡ writes before lines
+  pub text : after ≡ written before lines
