@@ -1,0 +1,42 @@
+-- From text to text: what the program `plan` and the C entry answer.
+--   planned      the plan of a text's set, on tables that are long enough for any
+--   linesFor     the lines of a plan, or of its refusal
+--   answerText   the answer to a text: its plan's lines, or one line with the first refusal
+--   tablesText   the same from the code's tables
+--   Entered      the C entry: the count of the bytes written, and 0 where the lent text is too short
+-- Assumes nothing.
+use mathlib.Core.Bool.{cond}
+use mathlib.Core.List.{List}
+use mathlib.Core.Path.{_≡_}
+use Prim.Native.Nat.{ℕ}
+use lib.Dec.{ltb}
+use lib.ListN.{length, take}
+use Rattle.model.specs.Limits.{jobsMost, slicesMost}
+use Rattle.model.specs.Refusal.{Answer, given, refused, andThen}
+use Rattle.text.specs.Input.{Input, inputOf}
+use Rattle.text.specs.Output.{planText, refusedText, refusalText, written}
+use Rattle.planner.specs.Plan.{Plan, planOf}
+use Rattle.planner.specs.declared.Planned.{Planned}
+use Rattle.planner.specs.declared.Planned.the-variants.{Plan as Counted, Refused}
+use Rattle.planner.specs.declared.Tables.{Tables}
+
+abbrev pub planned : Input → Answer Plan
+planned input = planOf (input .board) (length (input .jobs)) (input .jobs) jobsMost slicesMost
+
+abbrev pub linesFor : Answer Plan → List ℕ
+linesFor (given p) = planText (p .shares) (p .slices)
+linesFor (refused number place) = refusedText number place
+
+abbrev pub answerText : List ℕ → List ℕ
+answerText text = linesFor (andThen (inputOf text) planned)
+
+abbrev pub tablesBy : Planned → Tables → List ℕ
+tablesBy (Counted jobs slices) t = planText (take jobs (t .shares)) (take slices (t .slices))
+tablesBy (Refused r) t = refusalText r
+
+abbrev pub tablesText : Tables → List ℕ
+tablesText t = tablesBy (t .planned) t
+
+pub record Entered (asked before after : List ℕ) (r : ℕ) : Type 0 where
+  pub count : r ≡ cond (ltb (length before) (length (answerText asked))) 0 (length (answerText asked))
+  pub text : after ≡ written before (answerText asked)
