@@ -7,3 +7,4 @@ pub mod Rows
 pub mod Plans
 pub mod Moving
 pub mod Lent
+pub mod Determined

@@ -10,3 +10,4 @@ pub mod Totals
 pub mod Earlier
 pub mod MovesAll
 pub mod OncePerCore
+pub mod Determined

@@ -16,3 +16,4 @@ pub mod Each
 pub mod Placed
 pub mod Closed
 pub mod More
+pub mod Determined

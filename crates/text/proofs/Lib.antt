@@ -6,3 +6,4 @@ pub mod Turns
 pub mod Stores
 pub mod PlanText
 pub mod RoundTrip
+pub mod Determined
