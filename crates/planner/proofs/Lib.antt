@@ -8,3 +8,6 @@ pub mod Plans
 pub mod Moving
 pub mod Lent
 pub mod Determined
+pub mod Said
+pub mod Demands
+pub mod WrongPlanners
