@@ -1,0 +1,106 @@
+//! Holds an answer, whoever gave it, against the checker, and counts the
+//! answers by kind.
+
+use std::fmt;
+
+use crate::check::{self, Set};
+
+/// How many answers of each kind there were.
+#[derive(Clone, Debug, Default)]
+pub struct Counts {
+    pub texts: u64,
+    pub plans: u64,
+    pub plans_with_movers: u64,
+    pub plans_with_stretched: u64,
+    pub plans_full_on_both: u64,
+    pub most_slices: usize,
+    pub refusals: [u64; 11],
+    pub refused_for_room_with_stretched: u64,
+    pub refused_for_room_though_feasible: u64,
+}
+
+/// Checks one answer and counts it.
+pub fn examine(input: &[u8], output: &[u8], counts: &mut Counts) -> Result<(), String> {
+    let set = Set::read(input);
+    let refusal = refusal_number(output);
+    counts.texts += 1;
+    match (&set, refusal) {
+        (Some(set), None) => {
+            check::check_plan(input, output)?;
+            check::check_answer_for_room(set, true)?;
+            count_plan(set, output, counts);
+        }
+        (Some(set), Some(6)) => {
+            check::check_answer_for_room(set, false)?;
+            let stretched = set.stretched() != [0, 0];
+            counts.refused_for_room_with_stretched += u64::from(stretched);
+            counts.refused_for_room_though_feasible += u64::from(set.feasible_with_less([0, 0]));
+        }
+        (Some(_), Some(number)) => return Err(format!("refusal {number} of a legal set")),
+        (None, None) => return Err("a plan for an input that is no legal set".into()),
+        (None, Some(number @ (6 | 7))) => {
+            return Err(format!("refusal {number} of an input that is no legal set"));
+        }
+        (None, Some(_)) => {}
+    }
+    if let Some(number) = refusal {
+        *counts.refusals.get_mut(number).ok_or("no such refusal")? += 1;
+    }
+    Ok(())
+}
+
+/// The number of a refusal line, nothing for any other output.
+fn refusal_number(output: &[u8]) -> Option<usize> {
+    let line = std::str::from_utf8(output)
+        .ok()?
+        .strip_prefix("1f")?
+        .strip_suffix('\n')?;
+    if line.len() != 4 {
+        return None;
+    }
+    usize::from_str_radix(&line[..2], 16).ok()
+}
+
+fn count_plan(set: &Set, output: &[u8], counts: &mut Counts) {
+    let text = String::from_utf8_lossy(output);
+    let number = |digits: &str| u64::from_str_radix(digits, 16).unwrap_or(0);
+    let shares: Vec<[u64; 2]> = text
+        .lines()
+        .filter(|line| line.starts_with("11"))
+        .map(|line| [number(&line[4..8]), number(&line[8..12])])
+        .collect();
+    let full = |kind: usize| shares.iter().map(|share| share[kind]).sum::<u64>() == set.room(kind);
+    let mover = |share: &[u64; 2]| share[0] > 0 && share[1] > 0;
+    let slices = text.lines().filter(|line| line.starts_with("12")).count();
+
+    counts.plans += 1;
+    counts.plans_with_movers += u64::from(shares.iter().any(mover));
+    counts.plans_with_stretched += u64::from(set.stretched() != [0, 0]);
+    counts.plans_full_on_both += u64::from(full(0) && full(1));
+    counts.most_slices = counts.most_slices.max(slices);
+}
+
+/// A line for each count: its name, and the number last.
+impl fmt::Display for Counts {
+    fn fmt(&self, f: &mut fmt::Formatter) -> fmt::Result {
+        writeln!(f, "texts {}", self.texts)?;
+        writeln!(f, "plans {}", self.plans)?;
+        writeln!(f, "plans with movers {}", self.plans_with_movers)?;
+        writeln!(f, "plans with stretched jobs {}", self.plans_with_stretched)?;
+        writeln!(f, "plans full on both kinds {}", self.plans_full_on_both)?;
+        writeln!(f, "most slices {}", self.most_slices)?;
+        for number in (1..=10).filter(|&number| number != 7) {
+            writeln!(f, "refusal {number}: {}", self.refusals[number])?;
+        }
+        writeln!(
+            f,
+            "refusal 6 with stretched jobs {}",
+            self.refused_for_room_with_stretched
+        )?;
+        writeln!(
+            f,
+            "refusal 6 with a split in fractions {}",
+            self.refused_for_room_though_feasible
+        )
+    }
+}

@@ -1,0 +1,15 @@
+//! A second planner for boards with two kinds of core, with its own text
+//! format, checker and generator of inputs. It exists to be compared, byte by
+//! byte, with another implementation of the same rules.
+
+pub mod bench;
+pub mod c_entry;
+pub mod check;
+pub mod compare;
+pub mod duality;
+pub mod examine;
+pub mod family;
+pub mod frames;
+pub mod gen;
+pub mod planner;
+pub mod text;

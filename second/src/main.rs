@@ -1,0 +1,95 @@
+//! The program. A planner that is compared with this one reads the texts of a
+//! family in frames and writes its answers in frames:
+//! `second FAMILY | other | second compare FAMILY`.
+
+use std::io::{self, BufReader, BufWriter, Read, Write};
+use std::process::ExitCode;
+
+use second::compare;
+use second::family::Family;
+use second::{bench, frames, text};
+
+const USAGE: &str = "usage: second plan | answers | FAMILY | compare FAMILY | bench GROUP
+FAMILY: named | small | gen SEED COUNT [FROM]
+GROUP: a number of jobs | worst | refused";
+
+fn main() -> ExitCode {
+    match run() {
+        Ok(code) => code,
+        Err(error) => {
+            // Who reads the output may end first, and then has said why.
+            if error.kind() != io::ErrorKind::BrokenPipe {
+                eprintln!("second: {error}");
+            }
+            ExitCode::FAILURE
+        }
+    }
+}
+
+fn run() -> io::Result<ExitCode> {
+    let arguments: Vec<String> = std::env::args().skip(1).collect();
+    let words: Vec<&str> = arguments.iter().map(String::as_str).collect();
+    match words[..] {
+        ["plan"] => plan()?,
+        ["answers"] => answers()?,
+        ["compare", ..] => match Family::parse(&words[1..]) {
+            Some(family) => return run_compare(family),
+            None => return Ok(usage()),
+        },
+        ["bench", group] => match bench::texts(group) {
+            Some(texts) => write_frames(texts.into_iter())?,
+            None => return Ok(usage()),
+        },
+        _ => match Family::parse(&words) {
+            Some(family) => write_frames(family.indices().map(|index| family.text(index)))?,
+            None => return Ok(usage()),
+        },
+    }
+    Ok(ExitCode::SUCCESS)
+}
+
+fn plan() -> io::Result<()> {
+    let mut input = Vec::new();
+    io::stdin().lock().read_to_end(&mut input)?;
+    io::stdout().lock().write_all(&text::plan_text(&input))
+}
+
+fn write_frames(texts: impl Iterator<Item = Vec<u8>>) -> io::Result<()> {
+    let mut out = BufWriter::new(io::stdout().lock());
+    for text in texts {
+        frames::write(&mut out, &text)?;
+    }
+    out.flush()
+}
+
+fn answers() -> io::Result<()> {
+    let mut from = BufReader::new(io::stdin().lock());
+    let mut out = BufWriter::new(io::stdout().lock());
+    while let Some(input) = frames::read(&mut from)? {
+        frames::write(&mut out, &text::plan_text(&input))?;
+    }
+    out.flush()
+}
+
+/// Compares with the answers on standard input.
+fn run_compare(family: Family) -> io::Result<ExitCode> {
+    let mut from = BufReader::new(io::stdin().lock());
+    let ended = || io::Error::new(io::ErrorKind::UnexpectedEof, "an answer is missing");
+    let verdict = compare::run(family, |_| frames::read(&mut from)?.ok_or_else(ended))?;
+    match verdict {
+        Ok(_) if frames::read(&mut from)?.is_some() => {
+            eprintln!("{family}: more answers than texts")
+        }
+        Ok(counts) => {
+            write!(io::stdout().lock(), "{counts}")?;
+            return Ok(ExitCode::SUCCESS);
+        }
+        Err(failure) => eprintln!("{failure}"),
+    }
+    Ok(ExitCode::FAILURE)
+}
+
+fn usage() -> ExitCode {
+    eprintln!("{USAGE}");
+    ExitCode::from(2)
+}

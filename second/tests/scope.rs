@@ -1,0 +1,284 @@
+//! The sets and texts that the rules name, with the results they name.
+
+use second::check::{check_plan, feasible};
+use second::planner::{
+    moves, plan, plan_into, split, starting_balance, Allowed, Board, Job, Kind, Moves, PerKind,
+    Reason, Refusal, Slice,
+};
+use second::text::plan_text;
+
+fn board(window: i64, first: i64, second: i64) -> Board {
+    Board {
+        window,
+        cores: PerKind::new(first, second),
+    }
+}
+
+fn b(first: i64, second: i64) -> Job {
+    Job {
+        allowed: Allowed::Both,
+        cost: PerKind::new(first, second),
+    }
+}
+
+fn f(cost: i64) -> Job {
+    Job {
+        allowed: Allowed::Only(Kind::First),
+        cost: PerKind::new(cost, 0),
+    }
+}
+
+fn s(cost: i64) -> Job {
+    Job {
+        allowed: Allowed::Only(Kind::Second),
+        cost: PerKind::new(0, cost),
+    }
+}
+
+fn shares(pairs: &[(i64, i64)]) -> Vec<PerKind> {
+    pairs
+        .iter()
+        .map(|&(first, second)| PerKind::new(first, second))
+        .collect()
+}
+
+/// The input text of a set.
+fn input(board: &Board, jobs: &[Job]) -> String {
+    let mut text = format!(
+        "01{:04x}{:02x}{:02x}\n",
+        board.window, board.cores.first, board.cores.second
+    );
+    for job in jobs {
+        let allowed = match job.allowed {
+            Allowed::Both => 0,
+            Allowed::Only(Kind::First) => 1,
+            Allowed::Only(Kind::Second) => 2,
+        };
+        text += &format!(
+            "02{allowed:02x}{:08x}{:08x}\n",
+            job.cost.first, job.cost.second
+        );
+    }
+    text
+}
+
+fn answer(text: &str) -> String {
+    String::from_utf8(plan_text(text.as_bytes())).unwrap()
+}
+
+#[test]
+fn sets_on_both_sides_of_a_limit() {
+    type Row = (i64, Vec<Job>, Result<&'static [(i64, i64)], Refusal>);
+    let six = Err(Refusal::new(Reason::NoRoom, 0));
+    let five = Err(Refusal::new(Reason::DoesNotFit, 0));
+    let three = b(6, 16);
+    let rows: Vec<Row> = vec![
+        (1, vec![], Ok(&[])),
+        (1, vec![b(6, 9), b(6, 8)], Ok(&[(6, 0), (4, 3)])),
+        (1, vec![b(9, 6), b(8, 6)], Ok(&[(0, 6), (3, 4)])),
+        (1, vec![b(6, 16), f(6)], Ok(&[(4, 6), (6, 0)])),
+        (1, vec![b(10, 10); 2], Ok(&[(0, 10), (10, 0)])),
+        (1, vec![b(10, 10); 3], six),
+        (1, vec![f(10)], Ok(&[(10, 0)])),
+        (1, vec![f(11)], five),
+        (1, vec![b(11, 11)], five),
+        (1, vec![b(10, 11)], Ok(&[(10, 0)])),
+        (
+            2,
+            vec![three, three, three, f(8)],
+            Ok(&[(4, 6), (4, 6), (4, 6), (8, 0)]),
+        ),
+        (2, vec![three, three, three, f(9)], six),
+        (1, vec![b(7, 7)], Ok(&[(7, 0)])),
+        (1, vec![b(11, 10)], Ok(&[(0, 10)])),
+    ];
+    for (cores, jobs, expected) in rows {
+        let board = board(10, cores, cores);
+        assert_eq!(split(&board, &jobs), expected.map(shares), "{jobs:?}");
+        let text = input(&board, &jobs);
+        match expected {
+            Ok(_) => check_plan(text.as_bytes(), answer(&text).as_bytes()).unwrap(),
+            Err(refusal) => {
+                assert_eq!(
+                    answer(&text),
+                    format!("1f{:02x}00\n", refusal.reason.number())
+                );
+            }
+        }
+    }
+}
+
+#[test]
+fn empty_set_has_no_slices() {
+    assert_eq!(answer("01000a0101\n"), "100000\n");
+}
+
+#[test]
+fn set_with_nine_has_a_split_in_fractions() {
+    let text = input(&board(10, 2, 2), &[b(6, 16), b(6, 16), b(6, 16), f(9)]);
+    assert_eq!(feasible(text.as_bytes()), Some(true));
+    let text = input(&board(10, 1, 1), &[b(10, 10); 3]);
+    assert_eq!(feasible(text.as_bytes()), Some(false));
+    let text = input(&board(10, 1, 1), &[f(11)]);
+    assert_eq!(feasible(text.as_bytes()), None);
+}
+
+#[test]
+fn starting_balances() {
+    let balance = starting_balance(&board(10, 1, 1), &[b(6, 9), b(6, 8)]);
+    assert_eq!(balance, Ok(PerKind::new(-2, 10)));
+    let refused = starting_balance(&board(10, 1, 1), &[b(10, 10); 3]);
+    assert_eq!(refused, Ok(PerKind::new(-20, 10)));
+    let illegal = starting_balance(&board(10, 1, 1), &[f(11)]);
+    assert_eq!(illegal, Err(Refusal::new(Reason::DoesNotFit, 0)));
+}
+
+#[test]
+fn whole_example() {
+    let input = "01000a0101\n02000000000600000009\n02000000000600000008\n";
+    let output = "100203\n110000060000\n110100040003\n\
+                  1201010000000004\n1200010000040006\n1201020000070003\n";
+    assert_eq!(answer(input), output);
+    assert_eq!(answer(&input.to_uppercase()), output);
+    assert_eq!(answer(input.trim_end()), output);
+    check_plan(input.as_bytes(), output.as_bytes()).unwrap();
+}
+
+#[test]
+fn slices_and_moves_of_the_set_with_eight() {
+    let plan = plan(&board(10, 2, 2), &[b(6, 16), b(6, 16), b(6, 16), f(8)]).unwrap();
+    let expected = [
+        (0, Kind::First, 0, 0, 4),
+        (1, Kind::First, 0, 4, 4),
+        (2, Kind::First, 0, 8, 2),
+        (2, Kind::First, 1, 0, 2),
+        (3, Kind::First, 1, 2, 8),
+        (0, Kind::Second, 0, 4, 6),
+        (1, Kind::Second, 0, 0, 4),
+        (1, Kind::Second, 1, 8, 2),
+        (2, Kind::Second, 1, 2, 6),
+    ];
+    let expected: Vec<Slice> = expected
+        .iter()
+        .map(|&(job, kind, core, start, length)| Slice {
+            job,
+            kind,
+            core,
+            start,
+            length,
+        })
+        .collect();
+    assert_eq!(plan.slices, expected);
+    let moves = moves(&plan);
+    assert_eq!(moves[0], Moves { outer: 1, inner: 0 });
+    assert_eq!(moves[1], Moves { outer: 2, inner: 0 });
+    assert_eq!(moves[2], Moves { outer: 2, inner: 0 });
+    assert_eq!(moves[3], Moves { outer: 0, inner: 0 });
+}
+
+#[test]
+fn inner_moves() {
+    let plan = plan(&board(10, 2, 1), &[f(6), f(6)]).unwrap();
+    assert_eq!(
+        moves(&plan),
+        [Moves::default(), Moves { outer: 0, inner: 1 }]
+    );
+}
+
+#[test]
+fn first_table_of_the_source() {
+    let jobs = [
+        b(10, 3),
+        b(9, 3),
+        b(14, 6),
+        b(18, 9),
+        b(12, 8),
+        b(8, 9),
+        b(4, 7),
+    ];
+    let expected = shares(&[(0, 3), (3, 2), (7, 3), (2, 8), (6, 4), (8, 0), (4, 0)]);
+    let board = board(10, 3, 2);
+    assert_eq!(split(&board, &jobs), Ok(expected));
+    let text = input(&board, &jobs);
+    check_plan(text.as_bytes(), answer(&text).as_bytes()).unwrap();
+}
+
+#[test]
+fn ninety_four_slices() {
+    let mut jobs = vec![b(800, 1338); 15];
+    jobs.push(b(400, 900));
+    jobs.extend([f(10); 24]);
+    jobs.extend([s(5); 24]);
+    let board = board(1000, 8, 8);
+    assert_eq!(jobs.len(), 64);
+    assert_eq!(plan(&board, &jobs).unwrap().slices.len(), 94);
+    let text = input(&board, &jobs);
+    check_plan(text.as_bytes(), answer(&text).as_bytes()).unwrap();
+}
+
+#[test]
+fn costs_on_a_kind_not_allowed_have_no_effect() {
+    let board = board(10, 1, 1);
+    let mut odd = [f(4), s(7)];
+    odd[0].cost.second = -5;
+    odd[1].cost.first = i64::MAX;
+    assert_eq!(plan(&board, &odd), plan(&board, &[f(4), s(7)]));
+}
+
+#[test]
+fn checks_in_order() {
+    let refusal = |board: Board, jobs: &[Job]| {
+        let refusal = plan(&board, jobs).unwrap_err();
+        (refusal.reason.number(), refusal.place)
+    };
+    let many = vec![f(0); 65];
+    assert_eq!(refusal(board(0, 9, 0), &many), (1, 0));
+    assert_eq!(refusal(board(65_536, 1, 1), &[]), (1, 0));
+    assert_eq!(refusal(board(10, 9, 1), &many), (2, 0));
+    assert_eq!(refusal(board(10, 1, 0), &many), (2, 0));
+    assert_eq!(refusal(board(10, 1, 1), &many), (3, 64));
+    assert_eq!(
+        refusal(board(10, 1, 1), &[f(11), f(1), b(5, 0), s(0)]),
+        (4, 2)
+    );
+    assert_eq!(refusal(board(10, 1, 1), &[f(1), b(1, 1_000_001)]), (4, 1));
+    assert_eq!(
+        refusal(board(10, 1, 1), &[f(10), f(10), b(11, 12), s(11)]),
+        (5, 2)
+    );
+    assert_eq!(refusal(board(10, 1, 1), &[f(10), f(10), b(11, 10)]), (6, 0));
+    assert!(plan(&board(10, 1, 1), &[b(1, 1_000_000)]).is_ok());
+}
+
+#[test]
+fn lent_tables() {
+    let board = board(10, 1, 1);
+    let jobs = [b(6, 9), b(6, 8)];
+    let mark = Slice {
+        job: 99,
+        kind: Kind::Second,
+        core: 9,
+        start: 9,
+        length: 9,
+    };
+    let blank = PerKind::new(-1, -1);
+
+    let (mut share_table, mut slice_table) = (vec![blank; 3], vec![mark; 5]);
+    let rows = plan_into(&board, &jobs, &mut share_table, &mut slice_table);
+    assert_eq!(rows, Ok((2, 3)));
+    assert_eq!(share_table, shares(&[(6, 0), (4, 3), (-1, -1)]));
+    assert_eq!(slice_table[3..], [mark, mark]);
+
+    let short = Err(Refusal::new(Reason::TablesTooShort, 0));
+    for (share_rows, slice_rows) in [(1, 3), (2, 2), (0, 0)] {
+        let (mut share_table, mut slice_table) = (vec![blank; share_rows], vec![mark; slice_rows]);
+        assert_eq!(
+            plan_into(&board, &jobs, &mut share_table, &mut slice_table),
+            short
+        );
+        assert!(share_table.iter().all(|share| *share == blank));
+        assert!(slice_table.iter().all(|slice| *slice == mark));
+    }
+    let room = Err(Refusal::new(Reason::NoRoom, 0));
+    assert_eq!(plan_into(&board, &[b(10, 10); 3], &mut [], &mut []), room);
+}
