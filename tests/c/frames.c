@@ -1,0 +1,83 @@
+/* Plans many texts through the C entry. Standard input holds frames: a length of four bytes, high byte first, and then so many bytes. For each
+ * text the answer is written to standard output as a frame. Each text is planned three times, into a buffer of the full size, one of exactly the
+ * size of the answer, and one that is a byte shorter. Text and buffers end at a page that may not be touched. The program says so and ends with
+ * status 1 where the entry does anything but what its header promises. */
+#define _DEFAULT_SOURCE
+#include "clampfern.h"
+#include <stdio.h>
+#include <stdlib.h>
+#include <string.h>
+#include <sys/mman.h>
+
+#define TEXT_MOST 65536
+#define BEFORE 64  /* bytes before a buffer that must stay as they are */
+#define MARK 0xa5  /* in no answer */
+
+static unsigned long number; /* of the text */
+
+static void fail(const char *what)
+{
+    fprintf(stderr, "frames: text %lu: %s\n", number, what);
+    exit(1);
+}
+
+/* The end of so many bytes of memory, at a page that may not be touched. */
+static uint8_t *walled(size_t size)
+{
+    uint8_t *start = mmap(NULL, size + 4096, PROT_READ | PROT_WRITE, MAP_PRIVATE | MAP_ANONYMOUS, -1, 0);
+    if (start == MAP_FAILED || mprotect(start + size, 4096, PROT_NONE) != 0)
+        fail("no memory");
+    return start + size;
+}
+
+static int marked(const uint8_t *from, const uint8_t *end)
+{
+    while (from < end)
+        if (*from++ != MARK)
+            return 0;
+    return 1;
+}
+
+/* Plans into the last bytes before the wall, with marks in and before them, and sees to it that only those of the answer change. */
+static size_t plan(const uint8_t *text, size_t text_len, uint8_t *wall, size_t out_len)
+{
+    uint8_t *out = wall - out_len;
+    memset(out - BEFORE, MARK, BEFORE + out_len);
+    size_t written = clampfern_plan(text, text_len, out, out_len);
+    if (written > out_len)
+        fail("more bytes than were lent");
+    if (!marked(out - BEFORE, out) || !marked(out + written, wall))
+        fail("a byte outside the answer has changed");
+    return written;
+}
+
+static void answer(const uint8_t *text, size_t text_len, uint8_t *wall)
+{
+    uint8_t full[CLAMPFERN_OUT_MOST];
+    size_t size = plan(text, text_len, wall, sizeof full);
+    if (size == 0)
+        fail("the full size is too short");
+    memcpy(full, wall - sizeof full, size);
+    if (plan(text, text_len, wall, size) != size || memcmp(wall - size, full, size) != 0)
+        fail("another answer into a buffer of exactly its size");
+    if (plan(text, text_len, wall, size - 1) != 0)
+        fail("a buffer that is too short is not refused");
+    uint8_t head[4] = {0, 0, size >> 8, size & 255};
+    if (fwrite(head, 1, 4, stdout) != 4 || fwrite(full, 1, size, stdout) != size)
+        fail("the answer cannot be written");
+}
+
+int main(void)
+{
+    uint8_t *text_wall = walled(TEXT_MOST);
+    uint8_t *out_wall = walled(8192);
+    uint8_t head[4];
+    while (fread(head, 1, 4, stdin) == 4) {
+        size_t size = (size_t)head[0] << 24 | head[1] << 16 | head[2] << 8 | head[3];
+        if (size > TEXT_MOST || fread(text_wall - size, 1, size, stdin) != size)
+            fail("the text is too long or cut off");
+        answer(text_wall - size, size, out_wall);
+        number++;
+    }
+    return fflush(stdout) == 0 ? 0 : 1;
+}
