@@ -2,6 +2,7 @@
 ghost use mathlib.Core.Path.{_≡_};
 ghost use Prim.Native.Nat.{_≤_};
 ghost use lib.ListN.{take};
+ghost use Rattle.model.specs.Limits.{jobsMost};
 ghost use Rattle.legal.specs.Legal.{outside, badCost, tooLong, failsOf, lowest, legalOf, saysChecked};
 use model::Board;
 use model::CORES_MOST;
@@ -77,7 +78,7 @@ fn fails(test: Test, w: u32, job: Job) -> bool
 
 // The lowest of the first `n` jobs that fails a check, and `n` where none does.
 fn lowest_failing(test: Test, w: u32, jobs: [Job; JOBS_MOST], n: usize) -> usize
-    requires { ⌜ n ≤ 64 ⌝ }
+    requires { ⌜ n ≤ jobsMost ⌝ }
     ensures { λ r. ⌜ r ≡ lowest (failsOf test w) (take n jobs) ⌝ }
 {
     let mut i: usize = 0;

@@ -1,5 +1,6 @@
+pub mod Determined
+pub mod Fields
 pub mod Lists
 pub mod Movers
 pub mod Product
 pub mod Walk
-pub mod Determined

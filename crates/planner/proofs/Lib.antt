@@ -1,6 +1,5 @@
 pub mod Copied
 pub mod CopyRows
-pub mod Fields
 pub mod Slot
 pub mod Filling
 pub mod Rows

@@ -8,6 +8,7 @@ ghost use mathlib.Core.Path.{_≡_};
 ghost use mathlib.Core.List.{_++_};
 ghost use Prim.Native.Nat.{_-_, _≤_, min};
 ghost use lib.ListN.{length, take, drop, replicate};
+ghost use Rattle.model.specs.Limits.{jobsMost, slicesMost};
 ghost use Rattle.planner.specs.Moving.{movesBelow, noMoves, Moving};
 ghost use Rattle.planner.specs.Plan.{noTables, fitOf};
 ghost use Rattle.planner.specs.Promise.{Filled, Promised, noJob};
@@ -119,8 +120,8 @@ pub fn plan_by_value(
 
 // The moves of the first `n` jobs, by the first `sliced` rows of a table.
 fn moves_below(rows: [Slice; SLICES_MOST], sliced: usize, n: usize) -> [Moves; JOBS_MOST]
-    requires { ⌜ n ≤ 64 ⌝ }
-    ensures { λ r. ⌜ r ≡ movesBelow (take sliced rows) n ++ replicate (64 - n) noMoves ⌝ }
+    requires { ⌜ n ≤ jobsMost ⌝ }
+    ensures { λ r. ⌜ r ≡ movesBelow (take sliced rows) n ++ replicate (jobsMost - n) noMoves ⌝ }
 {
     let mut moves = [Moves { outer: 0, inner: 0 }; JOBS_MOST];
     let mut i: usize = 0;
@@ -145,15 +146,15 @@ pub fn moves(board: Board, jobs: [Job; JOBS_MOST], n: usize) -> Moved
 
 // As many jobs as a set can have, of a slice that may be longer.
 fn at_most_a_set(count: usize) -> usize
-    ensures { λ r. ⌜ r ≡ min count 64 ⌝ }
+    ensures { λ r. ⌜ r ≡ min count jobsMost ⌝ }
 {
     if count < JOBS_MOST { count } else { JOBS_MOST }
 }
 
 // The first n jobs of a slice, in an array whose others are empty.
 fn jobs_in(jobs: &[Job], n: usize) -> [Job; JOBS_MOST]
-    requires { ⌜ (n ≤ 64) × (n ≤ length (now jobs)) ⌝ }
-    ensures { λ r. ⌜ r ≡ take n (now (jobs .entry)) ++ drop n (replicate 64 noJob) ⌝ }
+    requires { ⌜ (n ≤ jobsMost) × (n ≤ length (now jobs)) ⌝ }
+    ensures { λ r. ⌜ r ≡ take n (now (jobs .entry)) ++ drop n (replicate jobsMost noJob) ⌝ }
 {
     let mut set = [Job::OnlyFirst(FirstTicks(0)); JOBS_MOST];
     let mut i: usize = 0;
@@ -166,7 +167,7 @@ fn jobs_in(jobs: &[Job], n: usize) -> [Job; JOBS_MOST]
 
 // The first n rows of a share table become the array's, and the others stay.
 fn put_shares(table: &mut [Share], rows: [Share; JOBS_MOST], n: usize)
-    requires { ⌜ (n ≤ 64) × (n ≤ length (now table)) ⌝ }
+    requires { ⌜ (n ≤ jobsMost) × (n ≤ length (now table)) ⌝ }
     ensures { λ _. ⌜ now (table .exit) ≡ take n rows ++ drop n (now (table .entry)) ⌝ }
 {
     let mut i: usize = 0;
@@ -178,7 +179,7 @@ fn put_shares(table: &mut [Share], rows: [Share; JOBS_MOST], n: usize)
 
 // The first n rows of a slice table become the array's, and the others stay.
 fn put_slices(table: &mut [Slice], rows: [Slice; SLICES_MOST], n: usize)
-    requires { ⌜ (n ≤ 94) × (n ≤ length (now table)) ⌝ }
+    requires { ⌜ (n ≤ slicesMost) × (n ≤ length (now table)) ⌝ }
     ensures { λ _. ⌜ now (table .exit) ≡ take n rows ++ drop n (now (table .entry)) ⌝ }
 {
     let mut i: usize = 0;

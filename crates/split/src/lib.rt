@@ -11,6 +11,7 @@ ghost use lib.ListN.{take, drop, replicate};
 ghost use Rattle.model.specs.Board.{roomOf};
 ghost use Rattle.model.specs.declared.Kind.the-variants.{First, Second};
 ghost use Rattle.model.specs.Lists.{All};
+ghost use Rattle.model.specs.Limits.{jobsMost};
 ghost use Rattle.legal.specs.Lawful.{LegalJob};
 ghost use Rattle.split.specs.Home.{bothRow, onlyRow, atHome, farEndOf};
 ghost use Rattle.split.specs.Steps.{noRow, Summed, ahead, better, nextOf, movedOf, stepsOf, Asks, Ready};
@@ -142,8 +143,8 @@ fn at_home(kind: Kind, job: Job) -> Row
 
 // The first `n` jobs at home, seen from a kind. The other rows are zero.
 fn home_rows(kind: Kind, jobs: [Job; JOBS_MOST], n: usize) -> [Row; JOBS_MOST]
-    requires { ⌜ n ≤ 64 ⌝ }
-    ensures { λ r. ⌜ r ≡ homeRows kind (take n jobs) ++ replicate (64 - n) noRow ⌝ }
+    requires { ⌜ n ≤ jobsMost ⌝ }
+    ensures { λ r. ⌜ r ≡ homeRows kind (take n jobs) ++ replicate (jobsMost - n) noRow ⌝ }
 {
     let mut rows = [Row {
         near: 0,
@@ -163,7 +164,7 @@ fn home_rows(kind: Kind, jobs: [Job; JOBS_MOST], n: usize) -> [Row; JOBS_MOST]
 
 // The ticks of the first `n` rows, here and there.
 fn sum_up(rows: [Row; JOBS_MOST], n: usize) -> Sums
-    requires { ⌜ n ≤ 64 ⌝ }
+    requires { ⌜ n ≤ jobsMost ⌝ }
     ensures { λ r. ⌜ Summed (take n rows) r ⌝ }
 {
     let mut here: u64 = 0;
@@ -180,7 +181,7 @@ fn sum_up(rows: [Row; JOBS_MOST], n: usize) -> Sums
 
 // The ticks of the first `n` jobs at home, on the first kind (here) and on the second (there).
 fn home_ticks(jobs: [Job; JOBS_MOST], n: usize) -> Sums
-    requires { ⌜ n ≤ 64 ⌝ }
+    requires { ⌜ n ≤ jobsMost ⌝ }
     ensures { λ r. ⌜ AtHome (take n jobs) r ⌝ }
 {
     let home = home_rows(Kind::First, jobs, n);
@@ -231,7 +232,7 @@ fn better_of(found: Next, i: usize, r: Row) -> Next
 
 // The next of the first `n` rows to be moved.
 fn next_of(rows: [Row; JOBS_MOST], n: usize) -> Next
-    requires { ⌜ n ≤ 64 ⌝ }
+    requires { ⌜ n ≤ jobsMost ⌝ }
     ensures { λ r. ⌜ r ≡ nextOf (take n rows) ⌝ }
 {
     let mut found = Next::Nobody;
@@ -274,7 +275,7 @@ fn moved(w: u32, room: u64, all: u64, r: Row) -> Row
 
 // The steps on the first `n` rows.
 fn steps(w: u32, room: u64, rows: [Row; JOBS_MOST], n: usize) -> [Row; JOBS_MOST]
-    requires { ⌜ n ≤ 64 ⌝ }
+    requires { ⌜ n ≤ jobsMost ⌝ }
     requires { ⌜ Ready w (take n rows) ⌝ }
     ensures { λ r. ⌜ r ≡ stepsOf n w room (take n rows) ++ drop n rows ⌝ }
 {
@@ -347,7 +348,7 @@ fn refused(refusal: Refusal) -> Shared
 
 // The shares of rows that a kind sees, if they are within both rooms.
 fn settle(kind: Kind, room: u64, away: u64, rows: [Row; JOBS_MOST], n: usize) -> Shared
-    requires { ⌜ (n ≤ 64) × (drop n rows ≡ replicate (64 - n) noRow) ⌝ }
+    requires { ⌜ (n ≤ jobsMost) × (drop n rows ≡ replicate (jobsMost - n) noRow) ⌝ }
     ensures { λ r. ⌜ Answers (settled kind room away (take n rows)) r ⌝ }
 {
     let ticks = sum_up(rows, n);
@@ -365,7 +366,7 @@ fn settle(kind: Kind, room: u64, away: u64, rows: [Row; JOBS_MOST], n: usize) ->
 
 // A kind is over at home, and the other is not: jobs are moved from it.
 fn relieve(kind: Kind, w: u32, room: u64, away: u64, jobs: [Job; JOBS_MOST], n: usize) -> Shared
-    requires { ⌜ (n ≤ 64) × All (LegalJob w) (take n jobs) ⌝ }
+    requires { ⌜ (n ≤ jobsMost) × All (LegalJob w) (take n jobs) ⌝ }
     ensures { λ r. ⌜ Answers (relieved kind w room away (take n jobs)) r ⌝ }
 {
     let home = home_rows(kind, jobs, n);
@@ -375,7 +376,7 @@ fn relieve(kind: Kind, w: u32, room: u64, away: u64, jobs: [Job; JOBS_MOST], n: 
 
 // The split of a legal set.
 fn split_legal(board: Board, jobs: [Job; JOBS_MOST], n: usize) -> Shared
-    requires { ⌜ (n ≤ 64) × All (LegalJob (board .window)) (take n jobs) ⌝ }
+    requires { ⌜ (n ≤ jobsMost) × All (LegalJob (board .window)) (take n jobs) ⌝ }
     ensures { λ r. ⌜ Answers (splitOf (board .window) (roomOf board First) (roomOf board Second) (take n jobs)) r ⌝ }
 {
     let w = board.window;

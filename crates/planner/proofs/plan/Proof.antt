@@ -57,7 +57,7 @@ use Rattle.model.proofs.Slice as Sl
 use Rattle.model.proofs.Slice.Laws as Sl′
 use Rattle.planner.specs.Promise.{Filled, Promised}
 use Rattle.planner.specs.declared.Tables.{Tables as Filling}
-use Rattle.planner.proofs.Fields.{is-back}
+use Rattle.model.proofs.Fields.{is-back}
 use Rattle.planner.proofs.Lent.{read, few-fits, lent}
 use Rattle.planner.proofs.Planned as E
 use Rattle.planner.proofs.Planned.Laws as E′

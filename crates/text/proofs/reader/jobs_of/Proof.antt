@@ -31,7 +31,7 @@ use Rattle.model.specs.declared.Job.{Job}
 use Rattle.model.proofs.Job as J
 use Rattle.model.proofs.Job.Laws as J′
 use Rattle.text.specs.declared.ReadSet.{ReadSet}
-use Rattle.text.proofs.Fields.{is-back}
+use Rattle.model.proofs.Fields.{is-back}
 use Rattle.text.proofs.ReadSet as T
 use Rattle.text.proofs.ReadSet.Laws as T′
 use Rattle.text.proofs.reader.jobs_of.Key.{name as #key}
