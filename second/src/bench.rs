@@ -39,7 +39,7 @@ enum Ratios {
     Mixed,
 }
 
-/// Sets of many kinds, each so much above the greatest that is accepted.
+/// Sets of many shapes, each so much above the greatest scale that is accepted.
 fn hardest(above: u64) -> Vec<Vec<u8>> {
     let mut list = Vec::new();
     for home in [0, 1] {
