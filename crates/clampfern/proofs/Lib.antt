@@ -1,3 +1,4 @@
-pub mod Lines
-pub mod Entry
 pub mod Determined
+pub mod Entry
+pub mod Lines
+pub mod ReadBack
