@@ -24,11 +24,12 @@ use Rattle.model.specs.declared.Board.{Board}
 use Rattle.model.specs.declared.Job.{Job}
 use Rattle.model.specs.declared.Job.the-variants.{Both, OnlyFirst}
 use Rattle.model.specs.declared.Share.{Share}
-use Rattle.legal.specs.Legal.{legalOf}
+use Rattle.legal.specs.Legal.{lowest, legalOf}
 use Rattle.legal.specs.Lawful.{LegalJob, Lawful}
 use Rattle.model.proofs.Movers.{movers-few}
 use Rattle.legal.proofs.Lawful.{legal-lawful, legal-or}
-use Rattle.split.specs.Steps.{hereSum, thereSum, stepsOf}
+use Rattle.split.specs.Home.{atHome, keepOf, giveOf}
+use Rattle.split.specs.Steps.{hereSum, thereSum, stepsOf, better, nextFrom, movedOf, stepOf}
 use Rattle.split.specs.Shares.{sharesSeen, homeRows, homeTicks, settled, byOver, splitOf, sharesOf}
 use Rattle.split.specs.Promise.{stretchedOn, smaller, SplitOn, SmallerSplit, Accepted, Demands, Exactly}
 use Rattle.split.specs.declared.Row.{Row}
@@ -178,10 +179,16 @@ module _ (board : Board) (n : ℕ) (js : List Job) where
 abbrev stretched : Job
 stretched = Both (record { 0 = 6 }) (record { 0 = 16 })
 
+abbrev tight : List Job
+tight = stretched ∷ stretched ∷ stretched ∷ OnlyFirst (record { 0 = 9 }) ∷ []
+
+abbrev four : Board
+four = record { window = 10; first = 2; second = 2 }
+
 abbrev part : Share
 part = share 18 32
 
-pub slack-needed : SplitOn (record { window = 10; first = 2; second = 2 }) (stretched ∷ stretched ∷ stretched ∷ OnlyFirst (record { 0 = 9 }) ∷ [])
+pub slack-needed : SplitOn four tight
 slack-needed =
     record {
       whole = 5;
@@ -191,3 +198,8 @@ slack-needed =
       within1 = omega arith;
       within2 = omega arith;
     }
+
+-- So demand 3 without its slack is false.
+pub no-slack-false : ((board : Board) (n : ℕ) (js : List Job) → sharesOf board n js ≡ refused 6 0 → SplitOn board js → ⊥) → ⊥
+unfolding lowest legalOf atHome keepOf giveOf better nextFrom movedOf stepOf stepsOf settled byOver
+no-slack-false claim = claim four 4 tight refl slack-needed
