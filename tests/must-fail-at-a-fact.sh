@@ -1,6 +1,6 @@
 #!/usr/bin/env bash
-# Every must-fail edit is refused because a fact no longer holds. An edit that only leaves the proof without a place to stand (`Need-..`), or that is no
-# longer well formed, shows nothing of the promise. Run after `rt ci`, which leaves a log for each edit.
+# No must-fail edit is refused only because it leaves the proof without a place to stand (`Need-..`), or is no longer well formed: that shows nothing of the
+# promise. It looks at the first error alone, and does not tell which fact failed. Run after `rt ci`, which leaves a log for each edit.
 set -u
 cd "$(dirname "$0")/.." || exit 2
 bad=0
