@@ -36,7 +36,7 @@ first-nothing : (x : Before) (s : Slice) → isFirst x s ≡ true → x ≡ Noth
 first-nothing Nothing s h = refl
 first-nothing (Row b) s h = absurd (true≢false (sym h))
 
--- A slice on another core than the one before is a move of one of the two sorts.
+-- A change of core is a move of exactly one of the two sorts.
 moved-once : (b s : Slice) → (SameCore b s → ⊥) → cond (isOuter (Row b) s) 1 0 + cond (isInner (Row b) s) 1 0 ≡ 1
 moved-once b s h = go (sameKind (b .kind) (s .kind)) refl (eqb (b .core) (s .core)) refl
   where

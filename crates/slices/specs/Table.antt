@@ -2,7 +2,7 @@
 -- On each kind the shares stand one behind the other, as runs of positions: position p is tick p % W of core p / W on the first kind,
 -- and tick W − 1 − p % W on the second, which is packed backward. A run that passes the edge of a core is cut there.
 --   Piece        a job and its ticks on a kind
---   piecesOf     the order on a kind: even movers by number, then the other mover, then the jobs with a share on this kind alone
+--   piecesOf     what stands on a kind, in order: the even movers, the mover that is not even, and those that are on this kind only
 --   sliceOf      the slice of a job at a place of a core, counted in the kind's direction
 --   cutOf        the one or two slices of a run that begins at a position
 --   packed       the slices of pieces, one behind the other
@@ -48,7 +48,7 @@ abbrev pub sliceOf : Kind → (w job core at length : ℕ) → Slice
 sliceOf k w job core at length =
     record { job = job; kind = k; core = core; start = on k at (w - (at + length)); length = length }
 
--- The run begins at position o. One that ends exactly on the edge of a core gives one slice.
+-- The run begins at position o. It is cut only where it goes past the edge: to end there is no reason to.
 unfoldable pub cutOf : Kind → (w o : ℕ) → Piece → List Slice
 cutOf k w o p =
     let at : ℕ = o % w in

@@ -21,7 +21,7 @@ use Rattle.split.specs.declared.FarEnd.{FarEnd}
 abbrev pub ceil : ℕ → ℕ → ℕ
 ceil a b = (a + (b - 1)) / b
 
--- At home on the first kind if c1 ≤ c2, else on the second.
+-- Home is where the job is cheaper. Of equal costs the first kind is home, so the two lines differ.
 abbrev pub homeOn : Kind → ℕ → ℕ → Bool
 homeOn First c1 c2 = leb c1 c2
 homeOn Second c1 c2 = ltb c2 c1
@@ -41,7 +41,7 @@ atHome k (Both c1 c2) = bothRow (homeOn k (c1 .0) (c2 .0)) (on k (c1 .0) (c2 .0)
 atHome k (OnlyFirst c1) = onlyRow (on k true false) (c1 .0)
 atHome k (OnlySecond c2) = onlyRow (on k false true) (c2 .0)
 
--- A job on both kinds with exactly one cost above W. Its home is the kind where it fits.
+-- It fits the window here and not on the other kind, so moving it away can never free this kind of it wholly.
 unfoldable pub stretchedAt : Kind → ℕ → Job → ℕ
 stretchedAt k w (Both c1 c2) = cond (leb (on k (c1 .0) (c2 .0)) w && ltb w (on k (c2 .0) (c1 .0))) 1 0
 stretchedAt k w (OnlyFirst c1) = 0

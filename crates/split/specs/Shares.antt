@@ -3,7 +3,7 @@
 --   settled      the answer where the steps from a kind are over: both kinds have to be within their rooms
 --   splitOf      the split of a legal set over two rooms, or refusal 6
 --   sharesOf     the same of any set: checks 1 to 5 come first
---   balanceOf    the starting balance of each kind, of any set that passes checks 1 to 5
+--   balanceOf    the starting balance of each kind, of any legal set
 --   saysShared, saysBalanced    what the code's answers say, in document 01's terms
 --   AtHome       what the code's sums of the jobs at home say
 --   Answers      an answer of the code's that says so, with zeros in every row that it does not count
@@ -92,7 +92,7 @@ abbrev pub sharesOf : Board → ℕ → List Job → Answer (List Share)
 sharesOf board n js =
     andThen (legalOf board n js) (λ (_ : Unit {0}). splitOf (board .window) (roomOf board First) (roomOf board Second) js)
 
--- Its room less the ticks of the jobs at home there: below zero where the kind is over.
+-- What a kind has left before any job is moved, as a signed number: a kind that is over shows by how much.
 abbrev pub balanceOn : Board → List Job → Kind → ℤ
 balanceOn board js k = pos (roomOf board k) -ℤ pos (homeTicks k js)
 

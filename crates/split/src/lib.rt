@@ -67,7 +67,7 @@ pub struct Shared {
     pub shares: [Share; JOBS_MOST],
 }
 
-// The room of each kind less the ticks of the jobs at home there: below zero where the kind is over.
+// What each kind has left while all jobs are at home, signed: a kind that is over is below zero.
 pub struct Balance {
     pub first: i64,
     pub second: i64,
