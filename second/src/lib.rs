@@ -8,6 +8,7 @@ pub mod check;
 pub mod compare;
 pub mod duality;
 pub mod examine;
+pub mod facts;
 pub mod family;
 pub mod frames;
 pub mod gen;

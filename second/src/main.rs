@@ -5,11 +5,10 @@
 use std::io::{self, BufReader, BufWriter, Read, Write};
 use std::process::ExitCode;
 
-use second::compare;
 use second::family::Family;
-use second::{bench, frames, text};
+use second::{bench, compare, facts, frames, text};
 
-const USAGE: &str = "usage: second plan | answers | FAMILY | compare FAMILY | bench GROUP
+const USAGE: &str = "usage: second plan | facts | answers | FAMILY | compare FAMILY | bench GROUP
 FAMILY: named | small | gen SEED COUNT [FROM]
 GROUP: a number of jobs | worst | refused";
 
@@ -30,7 +29,8 @@ fn run() -> io::Result<ExitCode> {
     let arguments: Vec<String> = std::env::args().skip(1).collect();
     let words: Vec<&str> = arguments.iter().map(String::as_str).collect();
     match words[..] {
-        ["plan"] => plan()?,
+        ["plan"] => answer(text::plan_text)?,
+        ["facts"] => answer(facts::facts_text)?,
         ["answers"] => answers()?,
         ["compare", ..] => match Family::parse(&words[1..]) {
             Some(family) => return run_compare(family),
@@ -48,10 +48,11 @@ fn run() -> io::Result<ExitCode> {
     Ok(ExitCode::SUCCESS)
 }
 
-fn plan() -> io::Result<()> {
+/// Answers the one text on standard input.
+fn answer(to: impl Fn(&[u8]) -> Vec<u8>) -> io::Result<()> {
     let mut input = Vec::new();
     io::stdin().lock().read_to_end(&mut input)?;
-    io::stdout().lock().write_all(&text::plan_text(&input))
+    io::stdout().lock().write_all(&to(&input))
 }
 
 fn write_frames(texts: impl Iterator<Item = Vec<u8>>) -> io::Result<()> {
