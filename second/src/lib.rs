@@ -5,7 +5,9 @@
 pub mod bench;
 pub mod c_entry;
 pub mod check;
+pub mod command;
 pub mod compare;
+pub mod compare_facts;
 pub mod duality;
 pub mod examine;
 pub mod facts;

@@ -1,14 +1,18 @@
 //! The program. A planner that is compared with this one reads the texts of a
 //! family in frames and writes its answers in frames:
-//! `second FAMILY | other | second compare FAMILY`.
+//! `second FAMILY | other | second compare FAMILY`. Facts are compared with
+//! those of a command that is run on each text by itself:
+//! `second compare-facts FAMILY -- other`.
 
 use std::io::{self, BufReader, BufWriter, Read, Write};
 use std::process::ExitCode;
 
+use second::compare_facts::Task;
 use second::family::Family;
-use second::{bench, compare, facts, frames, text};
+use second::{bench, command, compare, facts, frames, text};
 
 const USAGE: &str = "usage: second plan | facts | answers | FAMILY | compare FAMILY | bench GROUP
+       second compare-facts [--every N] FAMILY -- COMMAND [ARGUMENT]...
 FAMILY: named | small | gen SEED COUNT [FROM]
 GROUP: a number of jobs | worst | refused";
 
@@ -34,6 +38,10 @@ fn run() -> io::Result<ExitCode> {
         ["answers"] => answers()?,
         ["compare", ..] => match Family::parse(&words[1..]) {
             Some(family) => return run_compare(family),
+            None => return Ok(usage()),
+        },
+        ["compare-facts", ..] => match Task::parse(&words[1..]) {
+            Some(task) => return run_compare_facts(&task),
             None => return Ok(usage()),
         },
         ["bench", group] => match bench::texts(group) {
@@ -88,6 +96,20 @@ fn run_compare(family: Family) -> io::Result<ExitCode> {
         Err(failure) => eprintln!("{failure}"),
     }
     Ok(ExitCode::FAILURE)
+}
+
+/// Compares with the facts that a command gives.
+fn run_compare_facts(task: &Task) -> io::Result<ExitCode> {
+    match task.run(|input| command::run(&task.command, input))? {
+        Ok(counts) => {
+            write!(io::stdout().lock(), "{counts}")?;
+            Ok(ExitCode::SUCCESS)
+        }
+        Err(failure) => {
+            eprintln!("{failure}");
+            Ok(ExitCode::FAILURE)
+        }
+    }
 }
 
 fn usage() -> ExitCode {
