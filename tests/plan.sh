@@ -1,31 +1,71 @@
 #!/usr/bin/env bash
-# The program `plan` itself, as built by `rt check`: what it answers to whole, cut, long and slow inputs, and that it ends and does no harm where its
-# input cannot be read, its output cannot be written, or it is killed half-way.
-set -u
+# The program `plan` itself, as built by `rt check`: what it answers to whole, cut, long and slow inputs; that it never answers for a part of an input
+# which it could not read to its end; that it says so on standard error where its input cannot be read or its answer cannot be written; and that
+# it ends and does no harm where it is interrupted or killed half-way. tests/c/streams.c stands before the C library in some of the cases.
+set -u -o pipefail
 cd "$(dirname "$0")/.." || exit 2
+. tools/x86-64.sh
+c_preload streams || exit
 bad=0
-got=$(mktemp)
-trap 'rm -f "$got"' EXIT
+made=$(mktemp -d)
+trap 'rm -rf "$made"' EXIT
+out=$made/out
+err=$made/err
 run=(timeout 60 tools/run plan)
+preloaded=(timeout 60 tools/run --preload target/c/streams.so plan)
 example=$'01000a0101\n02000000000600000009\n02000000000600000008\n'
 plan=$'100203\n110000060000\n110100040003\n1201010000000004\n1200010000040006\n1201020000070003\n'
+unread=$'plan: the input cannot be read\n'
+unwritten=$'plan: the answer cannot be written\n'
 
-# is NAME STATUS WANT: the program ended with the status and wrote exactly this, also nothing to standard error.
+# is NAME STATUS WANT COMPLAINT: the program ended with status 0, and wrote exactly this to standard output and exactly that to standard error.
 is() {
-    if [ "$2" != 0 ] || ! printf %s "$3" | cmp -s - "$got"; then
+    if [ "$2" != 0 ] || ! printf %s "$3" | cmp -s - "$out" || ! printf %s "$4" | cmp -s - "$err"; then
         printf '%s: status %s, answer:\n' "$1" "$2"
-        cat "$got"
+        cat "$out"
+        printf 'standard error:\n'
+        cat "$err"
         bad=1
     fi
+    : >"$out"
 }
 
 # answers NAME WANT COMMAND..: what it answers to the command's output.
 answers() {
-    "${@:3}" | "${run[@]}" >"$got" 2>&1
-    is "$1" "${PIPESTATUS[1]}" "$2"
+    "${@:3}" | "${run[@]}" >"$out" 2>"$err"
+    is "$1" "${PIPESTATUS[1]}" "$2" ''
+}
+
+# treated NAME WANT COMPLAINT READS WRITES: what it answers to the example, where its first calls do what the letters say (tests/c/streams.c).
+treated() {
+    printf %s "$example" | READS=$4 WRITES=$5 "${preloaded[@]}" >"$out" 2>"$err"
+    is "$1" "${PIPESTATUS[1]}" "$2" "$3"
+}
+
+# unwaiting NAME WANT COMPLAINT COMMAND..: what it answers to the command's output through a pipe that does not wait. It is started when the command's
+# first piece is there.
+unwaiting() {
+    "${@:4}" | (sleep 0.5 && NONBLOCKING=1 "${preloaded[@]}") >"$out" 2>"$err"
+    is "$1" "${PIPESTATUS[1]}" "$2" "$3"
+}
+
+# signalled NAME SIGNAL..: it answers the example, and the signals that it gets while it waits for the second half change nothing.
+signalled() {
+    local process signal
+    CATCHING=1 tools/run --preload target/c/streams.so plan < <(halves 3) >"$out" 2>"$err" &
+    process=$!
+    sleep 1
+    for signal in "${@:2}"; do
+        kill -s "$signal" "$process"
+        sleep 0.1
+    done
+    wait "$process"
+    is "$1" "$?" "$plan" ''
 }
 
 digits() { head -c "$1" /dev/zero | tr '\0' 0; }
+
+times() { printf "$2%.0s" $(seq "$1"); }
 
 pieces() {
     local at
@@ -33,6 +73,13 @@ pieces() {
         printf %s "${example:at:9}"
         sleep 0.1
     done
+}
+
+# halves SECONDS: the board and the first job, and after a pause the second job.
+halves() {
+    printf %s "${example:0:32}"
+    sleep "$1"
+    printf %s "${example:32}"
 }
 
 answers 'the whole example' "$plan" printf %s "$example"
@@ -45,24 +92,53 @@ answers '4,096 bytes' $'1f0901\n' digits 4096
 answers '4,097 bytes' $'1f0800\n' digits 4097
 answers '100,000 bytes' $'1f0800\n' digits 100000
 
-"${run[@]}" <. >"$got" 2>&1
-is 'a directory for input' "$?" $'1f0a01\n'
-"${run[@]}" <&- >"$got" 2>&1
-is 'closed input' "$?" $'1f0a01\n'
+"${run[@]}" <. >"$out" 2>"$err"
+is 'a directory for input' "$?" '' "$unread"
+"${run[@]}" <&- >"$out" 2>"$err"
+is 'closed input' "$?" '' "$unread"
+: >"$err"
+"${run[@]}" <. >"$out" 2>&-
+is 'a directory for input, closed standard error' "$?" '' ''
+unwaiting 'two pieces through a pipe that does not wait' '' "$unread" halves 2
+unwaiting 'all of it in a pipe that does not wait' "$plan" '' printf %s "$example"
 
-"${run[@]}" <<<"$example" >&- 2>"$got"
-is 'closed output' "$?" ''
-"${run[@]}" <<<"$example" >/dev/full 2>"$got"
-is 'full output' "$?" ''
+# no more than 1,000 interrupted calls are borne
+treated 'interrupted reads' "$plan" '' i1i1ii1i ''
+treated '1,000 interrupted reads' "$plan" '' "$(times 1000 i)" ''
+treated '1,001 interrupted reads' '' "$unread" "$(times 1001 i)" ''
+treated '1,001 interrupted reads among others' '' "$unread" "1$(times 500 i)1$(times 501 i)" ''
+treated 'reads of a byte' "$plan" '' "$(times 100 1)" ''
+treated 'a first read that fails' '' "$unread" f ''
+treated 'a later read that fails' '' "$unread" "$(times 32 1)f" ''
+treated 'a read that fails where the end is' '' "$unread" "$(times ${#example} 1)f" ''
+signalled 'stopped and continued' STOP CONT STOP CONT
+signalled 'a signal that is caught' WINCH WINCH WINCH
 
-# the reader is gone before the answer comes: the system may end the program by a signal (141), as it does any other
-"${run[@]}" < <(sleep 1 && printf %s "$example") 2>"$got" | true
+treated 'interrupted writes' "$plan" '' '' i1i1ii1i
+treated '1,000 interrupted writes' "$plan" '' '' "$(times 1000 i)"
+treated '1,001 interrupted writes' '' "$unwritten" '' "$(times 1001 i)"
+treated 'writes of a byte' "$plan" '' '' "$(times 100 1)"
+treated 'a first write that fails' '' "$unwritten" '' f
+treated 'a later write that fails' "${plan:0:7}" "$unwritten" '' 1111111f
+treated 'a write that takes nothing' "${plan:0:7}" "$unwritten" '' 1111111n
+
+"${run[@]}" <<<"$example" >&- 2>"$err"
+is 'closed output' "$?" '' "$unwritten"
+"${run[@]}" <<<"$example" >/dev/full 2>"$err"
+is 'full output' "$?" '' "$unwritten"
+
+# the reader is gone before the answer comes: the system ends the program by a signal (141), or fails its write where that signal is ignored
+"${run[@]}" < <(sleep 1 && printf %s "$example") 2>"$err" | true
 status=${PIPESTATUS[0]}
-is 'output that nobody reads' "$((status == 141 ? 0 : status))" ''
+if [ "$status" = 141 ]; then
+    is 'output that nobody reads' 0 '' ''
+else
+    is 'output that nobody reads' "$status" '' "$unwritten"
+fi
 
 # the subshell keeps bash's own word on the killing
-(timeout -s KILL 1 tools/run plan < <(printf %s "${example:0:20}" && exec sleep 2) >"$got" 2>&1; exit "$?") 2>/dev/null
+(timeout -s KILL 1 tools/run plan < <(printf %s "${example:0:20}" && exec sleep 2) >"$out" 2>"$err"; exit "$?") 2>/dev/null
 status=$?
-is 'killed half-way' "$((status == 137 ? 0 : 1))" ''
+is 'killed half-way' "$((status == 137 ? 0 : 1))" '' ''
 
 exit $bad

@@ -6,13 +6,19 @@ use lib.Seq.{length-take-le}
 use Rattle.plan.proofs.put.Statement.{statement}
 use Rattle.plan.proofs.put.Tie as tie
 
-slice-aggregate-write-all : tie.Need-slice-aggregate-write-all
-slice-aggregate-write-all c =
+slice-aggregate-write-output : tie.Need-slice-aggregate-write-output
+slice-aggregate-write-output c =
     let a = c .before .before .before .args in
-    sym (length-take-le (a .size) (a .text .now) (omega arith))
+    sym (length-take-le (a .size) (a .answer .now) (omega arith))
 
-write-all-requires : tie.Need-write-all-requires
-write-all-requires c κs = search needs
+write-output-requires : tie.Need-write-output-requires
+write-output-requires c κs = search needs
+
+slice-aggregate-complain : tie.Need-slice-aggregate-complain
+slice-aggregate-complain c = search needs
+
+complain-requires : tie.Need-complain-requires
+complain-requires c κs = search needs
 
 returns : tie.Need-returns
 returns c = search needs
@@ -20,5 +26,17 @@ returns c = search needs
 returns-2 : tie.Need-returns-2
 returns-2 c = search needs
 
+returns-3 : tie.Need-returns-3
+returns-3 c = search needs
+
 pub put-spec : {M : Type 1} → statement M
-put-spec = tie.close (tie.spec slice-aggregate-write-all write-all-requires returns returns-2)
+put-spec =
+    tie.close
+    (tie.spec
+    slice-aggregate-write-output
+    write-output-requires
+    slice-aggregate-complain
+    complain-requires
+    returns
+    returns-2
+    returns-3)
