@@ -1,6 +1,6 @@
 // The standard input and output of our programs, over the C library's read and write. A read that failed is told from the end of the input, and
-// a write that moved a part or failed from one that moved all. No contract can say which bytes were read or written; what is proved is that each
-// function is safe and ends, that a count lies within its buffer, and that a call that failed is never taken for the end (specs/Call.antt).
+// a write that moved a part or failed from one that moved all. No contract can say which bytes were read or written. What is proved: each function
+// is safe and ends, a count lies within its buffer, and no answer below 0 says the end (`call_of`). What the loops make of that tests/plan.sh tries.
 ghost use Rattle.streams.specs.Call.{Said};
 ghost use Rattle.streams.specs.Input.{Held};
 use libc::EINTR;
