@@ -10,7 +10,8 @@ use native.Mathlib.Omega.{arith}
 use lib.ListN.{length, take, getD}
 use lib.Seq.{getD-take}
 use Rattle.model.specs.Board.{roomOf}
-use Rattle.model.specs.Refusal.{Answer, given, refused}
+use Rattle.model.specs.Limits.{jobsMost}
+use Rattle.model.specs.Refusal.{Answer, given, refused, numberOf, placeOf}
 use Rattle.model.specs.Split.{share, ticksOn, Does, Split}
 use Rattle.model.specs.Timetable.{Runs, SameCore, Inside, ticksIn}
 use Rattle.model.specs.declared.Kind.{Kind}
@@ -23,11 +24,13 @@ use Rattle.model.specs.declared.Slice.{Slice}
 use Rattle.model.proofs.Lists.{all-at}
 use Rattle.legal.specs.Legal.{legalOf}
 use Rattle.split.specs.Promise.{stretchedOn}
+use Rattle.planner.specs.Listed.{Listed, window, cores, many, cost, long, room, space}
 use Rattle.planner.specs.Plan.{Counts, saysPlanned}
 use Rattle.planner.specs.Place.{noSlice}
 use Rattle.planner.specs.Promise.{noJob, Promised}
 use Rattle.planner.specs.declared.Planned.{Planned}
 use Rattle.planner.specs.declared.Planned.the-variants.{Plan, Refused}
+use Rattle.planner.proofs.Causes.{plan-listed}
 use Rattle.planner.proofs.Said.{do-at, counts-there, rows-pair, call-refused}
 
 -- ==== Demand 1. Any input at all is planned or refused by number and place. Nothing is left to the caller to check, every call ends, a
@@ -35,37 +38,28 @@ use Rattle.planner.proofs.Said.{do-at, counts-there, rows-pair, call-re
 -- That nothing is left to check and that every call ends is what the contract of `plan` is: it has no `requires`, and a proof of it is a
 -- proof that the call ends.
 
--- The numbers of a refusal, each with its place, for a set of n jobs: document 01's "Refusals by number".
-pub data Listed (n : ℕ) : (number place : ℕ) → Type 0 where
-  window : Listed n 1 0
-  cores : Listed n 2 0
-  many : Listed n 3 64
-  cost : (job : ℕ) → job < n → n ≤ 64 → Listed n 4 job
-  long : (job : ℕ) → job < n → n ≤ 64 → Listed n 5 job
-  room : Listed n 6 0
-  space : Listed n 7 0
+-- A plan with a share for each job, or a refusal by number and place, with its cause: document 01's "Refusals by number", as Listed says it.
+abbrev pub PlannedOrRefused : Board → List Job → (m k : ℕ) → Answer Counts → Type 0
+PlannedOrRefused board js m k (given counts) = counts .jobs ≡ length js
+PlannedOrRefused board js m k (refused number place) = Listed board js m k number place
 
--- A plan with a share for each of n jobs, or a refusal by number and place.
-abbrev pub PlannedOrRefused : ℕ → Answer Counts → Type 0
-PlannedOrRefused n (given counts) = counts .jobs ≡ n
-PlannedOrRefused n (refused number place) = Listed n number place
-
--- The numbers are 1 to 7, and no place is above 64.
-pub listed-small : {n number place : ℕ} → Listed n number place → (1 ≤ number) × (number ≤ 7) × (place ≤ 64)
-listed-small window = omega arith
-listed-small cores = omega arith
-listed-small many = omega arith
-listed-small (cost job of-set few) = omega arith
-listed-small (long job of-set few) = omega arith
-listed-small room = omega arith
-listed-small space = omega arith
+-- The numbers are 1 to 7, and no place is above the most jobs of a set.
+pub listed-small : {board : Board} {js : List Job} {m k number place : ℕ} → Listed board js m k number place
+    → (1 ≤ number) × (number ≤ 7) × (place ≤ jobsMost)
+listed-small (window cause) = omega arith
+listed-small (cores short cause) = omega arith
+listed-small (many sound cause) = omega arith
+listed-small (cost job lowest sound few) = omega (arith, lowest .there)
+listed-small (long job lowest sound few costs) = omega (arith, lowest .there)
+listed-small (room law cause) = omega arith
+listed-small (space ss law is cause) = omega arith
 
 module _ {board : Board} {js : List Job} {ss ss′ : List Share} {ls ls′ : List Slice} where
   -- Any input at all is planned or refused by number and place.
-  pub any-input-answered : (r : Planned) → Promised board js ss ls r ss′ ls′ → PlannedOrRefused (length js) (saysPlanned r)
+  pub any-input-answered : (r : Planned) → Promised board js ss ls r ss′ ls′ → PlannedOrRefused board js (length ss) (length ls) (saysPlanned r)
   any-input-answered (Plan jobs slices) p = counts-there p .all
   any-input-answered (Refused refusal) p =
-      call-refused (Listed (length js)) board js window cores many cost long room space p
+      plan-listed board js (length ss) (length ls) (numberOf refusal) (placeOf refusal) (call-refused p)
 
   -- A refusal changes no entry of the lent tables.
   pub refusal-changes-nothing : {refusal : Refusal} → Promised board js ss ls (Refused refusal) ss′ ls′ → (ss′ ≡ ss) × (ls′ ≡ ls)

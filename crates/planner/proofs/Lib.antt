@@ -7,6 +7,7 @@ pub mod Plans
 pub mod Moving
 pub mod Lent
 pub mod Determined
+pub mod Causes
 pub mod Said
 pub mod Demands
 pub mod WrongPlanners

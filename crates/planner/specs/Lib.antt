@@ -3,3 +3,4 @@ pub mod Plan
 pub mod Promise
 pub mod Moving
 pub mod Most
+pub mod Listed

@@ -1,0 +1,180 @@
+-- Every refusal of the planning call has a cause: where the definition of the plan refuses a set, the refusal is listed. Each test of the
+-- definition tells whether a fact holds, and the tests are taken in their order. Assumes nothing.
+--   Tells         a test tells whether a fact holds
+--   lowest-of     the lowest job that a test refuses, where there is one
+--   none-of       where there is none, the fact holds of no job
+--   plan-listed   a refusal of the plan is listed, with its place and its cause
+use mathlib.Core.Path.{_≡_, refl}
+use mathlib.Core.Bool.{Bool, true, false, cond, _&&_, _||_}
+use mathlib.Core.List.{List, [], _∷_}
+use mathlib.Core.Logic.{_⊎_, inl, inr, ⊎-elim}
+use Prim.Native.Nat.{ℕ, zero, suc, _+_, _≤_, _<_}
+use native.Mathlib.Omega.{arith}
+use borrow.Author.Tests.{ltb-true, ltb-false}
+use lib.Dec.{leb, ltb}
+use lib.ListN.{length, getD}
+use Rattle.model.specs.Limits.{windowMost, coresMost, jobsMost, costMost}
+use Rattle.model.specs.Lists.{All}
+use Rattle.model.specs.Refusal.{Answer, given, refused}
+use Rattle.model.specs.declared.Kind.{Kind}
+use Rattle.model.specs.declared.Kind.the-variants.{First, Second}
+use Rattle.model.specs.declared.Board.{Board}
+use Rattle.model.specs.declared.Job.{Job}
+use Rattle.model.specs.declared.Job.the-variants.{Both, OnlyFirst, OnlySecond}
+use Rattle.model.specs.declared.Share.{Share}
+use Rattle.legal.specs.Lawful.{Lawful}
+use Rattle.legal.specs.Legal.{outside, badCost, tooLong, failsOf, lowest, legalOf}
+use Rattle.legal.specs.declared.Test.the-variants.{Cost, Long}
+use Rattle.legal.proofs.Lawful.{legal-lawful}
+use Rattle.slices.specs.Table.{tableOf}
+use Rattle.split.specs.Steps.{hereSum, thereSum}
+use Rattle.split.specs.Shares.{sharesSeen, settled, byOver}
+use Rattle.split.specs.declared.Row.{Row}
+use Rattle.planner.specs.Listed.{Outside, BadCost, TooLong, LowestOf, Sound, stepsOn, Listed, window, cores, many, cost, long, room, space}
+use Rattle.planner.specs.Plan.{fitted, planOf}
+use Rattle.planner.specs.Promise.{noJob}
+use Rattle.planner.proofs.Plans.{do-length, shares-accepted}
+
+-- ---- tests
+data Tells (P : Type 0) : Bool → Type 0 where
+  holds : P → Tells P true
+  fails : (P → ⊥) → Tells P false
+
+less-tells : (a b : ℕ) → Tells (a < b) (ltb a b)
+less-tells a b = go (ltb a b) refl
+  where
+    go : (t : Bool) → ltb a b ≡ t → Tells (a < b) t
+    go true e = holds (ltb-true a b e)
+    go false e = fails (λ l. omega (arith, ltb-false a b e))
+
+or-tells : {P Q : Type 0} {s t : Bool} → Tells P s → Tells Q t → Tells (P ⊎ Q) (s || t)
+or-tells (holds p) q = holds (inl p)
+or-tells (fails p) (holds q) = holds (inr q)
+or-tells (fails p) (fails q) = fails (⊎-elim p q)
+
+and-tells : {P Q : Type 0} {s t : Bool} → Tells P s → Tells Q t → Tells (P × Q) (s && t)
+and-tells (holds p) (holds q) = holds (p, q)
+and-tells (holds p) (fails q) = fails (λ x. q (x .1))
+and-tells (fails p) q = fails (λ x. p (x .0))
+
+outside-tells : (most x : ℕ) → Tells (Outside most x) (outside most x)
+outside-tells most x = or-tells (less-tells x 1) (less-tells most x)
+
+cost-tells : (j : Job) → Tells (BadCost j) (badCost j)
+cost-tells (Both c1 c2) = or-tells (outside-tells costMost (c1 .0)) (outside-tells costMost (c2 .0))
+cost-tells (OnlyFirst c1) = outside-tells costMost (c1 .0)
+cost-tells (OnlySecond c2) = outside-tells costMost (c2 .0)
+
+long-tells : (w : ℕ) (j : Job) → Tells (TooLong w j) (tooLong w j)
+long-tells w (Both c1 c2) = and-tells (less-tells w (c1 .0)) (less-tells w (c2 .0))
+long-tells w (OnlyFirst c1) = less-tells w (c1 .0)
+long-tells w (OnlySecond c2) = less-tells w (c2 .0)
+
+-- ---- the lowest job
+module _ (test : Job → Bool) (Bad : Job → Type 0) (tells : (j : Job) → Tells (Bad j) (test j)) where
+  -- A job in front of a list: the lowest is that job, or the lowest of the list.
+  in-front : (j : Job) (js : List Job) (low : ℕ) {t : Bool} → Tells (Bad j) t → (low < length js → LowestOf Bad js low)
+      → cond t 0 (1 + low) < length (j ∷ js) → LowestOf Bad (j ∷ js) (cond t 0 (1 + low))
+  in-front j js low (holds bad) rest l = record { there = l; bad = bad; lower = λ i m. absurd (omega arith) }
+  in-front j js low (fails good) rest l =
+      let of-rest = rest (omega arith) in
+      let next : 1 + low ≡ suc low = omega arith in
+      record { there = l; bad = rw next (of-rest .bad); lower = lower (of-rest .lower) }
+    where
+      lower : ((i : ℕ) → i < low → Bad (getD js i noJob) → ⊥) → (i : ℕ) → i < 1 + low → Bad (getD (j ∷ js) i noJob) → ⊥
+      lower below zero m = good
+      lower below (suc i) m = below i (omega arith)
+
+  lowest-of : (js : List Job) → lowest test js < length js → LowestOf Bad js (lowest test js)
+  unfolding lowest
+  lowest-of [] l = absurd (omega arith)
+  lowest-of (j ∷ js) l = in-front j js (lowest test js) (tells j) (lowest-of js) l
+
+  none-in-front : (j : Job) (js : List Job) (low : ℕ) {t : Bool} → Tells (Bad j) t → (length js ≤ low → All (λ (j : Job). Bad j → ⊥) js)
+      → length (j ∷ js) ≤ cond t 0 (1 + low) → All (λ (j : Job). Bad j → ⊥) (j ∷ js)
+  none-in-front j js low (holds bad) rest l = absurd (omega arith)
+  none-in-front j js low (fails good) rest l = (good, rest (omega arith))
+
+  none-of : (js : List Job) → length js ≤ lowest test js → All (λ (j : Job). Bad j → ⊥) js
+  unfolding lowest
+  none-of [] l = tt
+  none-of (j ∷ js) l = none-in-front j js (lowest test js) (tells j) (none-of js) l
+
+-- ---- the steps refuse by number 6 alone
+abbrev ForRoom : Answer (List Share) → Type 0
+ForRoom (given ss) = Unit {0}
+ForRoom (refused number place) = (number ≡ 6) × (place ≡ 0)
+
+settled-room : (k : Kind) (here away : ℕ) (rs : List Row) → ForRoom (settled k here away rs)
+unfolding settled
+settled-room k here away rs = go (leb (hereSum rs) here) (leb (thereSum rs) away)
+  where
+    go : (s t : Bool) → ForRoom (cond s (cond t (given (sharesSeen k rs)) (refused 6 0)) (refused 6 0))
+    go true true = tt
+    go true false = (refl, refl)
+    go false t = (refl, refl)
+
+over-room : (s t : Bool) (w room1 room2 : ℕ) (js : List Job) → ForRoom (byOver s t w room1 room2 js)
+unfolding byOver
+over-room true true w room1 room2 js = (refl, refl)
+over-room true false w room1 room2 js = settled-room First room1 room2 _
+over-room false true w room1 room2 js = settled-room Second room2 room1 _
+over-room false false w room1 room2 js = tt
+
+-- ---- the tests in their order
+module _ (board : Board) (js : List Job) (m k : ℕ) where
+  abbrev ListedIn : {A : Type 0} → Answer A → Type 0
+  ListedIn (given x) = Unit {0}
+  ListedIn (refused number place) = Listed board js m k number place
+
+  -- A test refuses by what holds, and else the answer goes on with that it does not hold.
+  by-test : {A P : Type 0} {t : Bool} (x y : Answer A) → Tells P t → (P → ListedIn x) → ((P → ⊥) → ListedIn y) → ListedIn (cond t x y)
+  by-test x y (holds p) stops goes = stops p
+  by-test x y (fails p) stops goes = goes p
+
+  abbrev bad : ℕ
+  bad = lowest (failsOf Cost (board .window)) js
+
+  abbrev slow : ℕ
+  slow = lowest (failsOf Long (board .window)) js
+
+  legal-listed : ListedIn (legalOf board (length js) js)
+  unfolding legalOf
+  legal-listed =
+      by-test _ _ (outside-tells windowMost (board .window)) window
+      (λ short. by-test _ _ (or-tells (outside-tells coresMost (board .first)) (outside-tells coresMost (board .second))) (cores short)
+      (λ kinds. let sound : Sound board = record { window = short; first = λ h. kinds (inl h); second = λ h. kinds (inr h) } in
+      by-test _ _ (less-tells jobsMost (length js)) (many sound)
+      (λ few. by-test _ _ (less-tells bad (length js)) (λ l. cost bad (lowest-of _ BadCost cost-tells js l) sound (omega arith))
+      (λ costs. by-test _ (given tt) (less-tells slow (length js))
+      (λ l. long slow (lowest-of _ (TooLong (board .window)) (long-tells (board .window)) js l) sound (omega arith)
+      (none-of _ BadCost cost-tells js (omega arith)))
+      (λ _. tt)))))
+
+  space-listed : Lawful board (length js) js → (ss : List Share) → stepsOn board js ≡ given ss → length ss ≡ length js
+      → ListedIn (fitted m k (record { shares = ss; slices = tableOf (board .window) ss }))
+  space-listed law ss is all =
+      by-test _ _ (or-tells (less-tells m (length ss)) (less-tells k (length (tableOf (board .window) ss))))
+      (λ short. space ss law is (rw all at short)) (λ _. tt)
+
+  legal-plan : legalOf board (length js) js ≡ given tt → ListedIn (planOf board (length js) js m k)
+  legal-plan legal = go (stepsOn board js) refl (over-room _ _ (board .window) _ _ js)
+    where
+      law : Lawful board (length js) js
+      law = legal-lawful board (length js) js legal
+
+      go : (x : Answer (List Share)) → stepsOn board js ≡ x → ForRoom x → ListedIn (planOf board (length js) js m k)
+      go (given ss) is six =
+          rw (legal, is) (space-listed law ss is
+          (do-length (board .window) js ss (shares-accepted board (length js) js (rw legal is) .whole .does)))
+      go (refused number place) is six = rw (legal, is, six .0, six .1) (room law (rw (six .0, six .1) at is))
+
+  listed-in : ListedIn (planOf board (length js) js m k)
+  listed-in = go (legalOf board (length js) js) refl legal-listed
+    where
+      go : (x : Answer (Unit {0})) → legalOf board (length js) js ≡ x → ListedIn x → ListedIn (planOf board (length js) js m k)
+      go (given _) legal listed = legal-plan legal
+      go (refused number place) legal listed = rw legal listed
+
+  pub plan-listed : (number place : ℕ) → planOf board (length js) js m k ≡ refused number place → Listed board js m k number place
+  plan-listed number place is = rw is at listed-in

@@ -1,0 +1,65 @@
+-- The refusals of a set, each by its number, with its place and its cause: document 01, "Refusals by number", line by line, from 1 to 7.
+-- Each is there only where the causes of the lines above it do not hold of any job.
+--   Outside      a number that is not in 1 to a limit
+--   BadCost      line 4 of one job: a cost on a kind that it is allowed on is outside 1 to the limit
+--   TooLong      line 5 of one job: each cost on a kind that it is allowed on is above W
+--   LowestOf     a job of the set of which something holds, where it holds of none before it
+--   Sound        a board that has neither cause 1 nor cause 2
+--   stepsOn      what the steps of the split answer, on the rooms of a board
+--   Listed       a refusal of the jobs js on a board, for tables of m shares and k slices
+-- Assumes nothing.
+use mathlib.Core.List.{List}
+use mathlib.Core.Logic.{_⊎_}
+use mathlib.Core.Path.{_≡_}
+use Prim.Native.Nat.{ℕ, _≤_, _<_}
+use lib.ListN.{length, getD}
+use Rattle.model.specs.Board.{roomOf}
+use Rattle.model.specs.Limits.{windowMost, coresMost, jobsMost, costMost}
+use Rattle.model.specs.Lists.{All}
+use Rattle.model.specs.Refusal.{Answer, given, refused}
+use Rattle.model.specs.declared.Kind.the-variants.{First, Second}
+use Rattle.model.specs.declared.Board.{Board}
+use Rattle.model.specs.declared.Job.{Job}
+use Rattle.model.specs.declared.Job.the-variants.{Both, OnlyFirst, OnlySecond}
+use Rattle.model.specs.declared.Share.{Share}
+use Rattle.legal.specs.Lawful.{Lawful}
+use Rattle.slices.specs.Table.{tableOf}
+use Rattle.split.specs.Shares.{splitOf}
+use Rattle.planner.specs.Promise.{noJob}
+
+abbrev pub Outside : ℕ → ℕ → Type 0
+Outside most x = (x < 1) ⊎ (most < x)
+
+abbrev pub BadCost : Job → Type 0
+BadCost (Both c1 c2) = Outside costMost (c1 .0) ⊎ Outside costMost (c2 .0)
+BadCost (OnlyFirst c1) = Outside costMost (c1 .0)
+BadCost (OnlySecond c2) = Outside costMost (c2 .0)
+
+abbrev pub TooLong : ℕ → Job → Type 0
+TooLong w (Both c1 c2) = (w < c1 .0) × (w < c2 .0)
+TooLong w (OnlyFirst c1) = w < c1 .0
+TooLong w (OnlySecond c2) = w < c2 .0
+
+pub record LowestOf (Bad : Job → Type 0) (js : List Job) (job : ℕ) : Type 0 where
+  pub there : job < length js
+  pub bad : Bad (getD js job noJob)
+  pub lower : (i : ℕ) → i < job → Bad (getD js i noJob) → ⊥
+
+pub record Sound (board : Board) : Type 0 where
+  pub window : Outside windowMost (board .window) → ⊥
+  pub first : Outside coresMost (board .first) → ⊥
+  pub second : Outside coresMost (board .second) → ⊥
+
+abbrev pub stepsOn : Board → List Job → Answer (List Share)
+stepsOn board js = splitOf (board .window) (roomOf board First) (roomOf board Second) js
+
+pub data Listed (board : Board) (js : List Job) (m k : ℕ) : (number place : ℕ) → Type 0 where
+  window : Outside windowMost (board .window) → Listed board js m k 1 0
+  cores : (Outside windowMost (board .window) → ⊥) → Outside coresMost (board .first) ⊎ Outside coresMost (board .second) → Listed board js m k 2 0
+  many : Sound board → jobsMost < length js → Listed board js m k 3 jobsMost
+  cost : (job : ℕ) → LowestOf BadCost js job → Sound board → length js ≤ jobsMost → Listed board js m k 4 job
+  long : (job : ℕ) → LowestOf (TooLong (board .window)) js job → Sound board → length js ≤ jobsMost → All (λ (j : Job). BadCost j → ⊥) js
+      → Listed board js m k 5 job
+  room : Lawful board (length js) js → stepsOn board js ≡ refused 6 0 → Listed board js m k 6 0
+  space : (ss : List Share) → Lawful board (length js) js → stepsOn board js ≡ given ss → (m < length js) ⊎ (k < length (tableOf (board .window) ss))
+      → Listed board js m k 7 0
