@@ -91,7 +91,14 @@ module _ (board : Board) (n : ℕ) (js : List Job) where
         omega (arith, table-few board ss accepted-fits (law .first-some) (law .second-some), do-length (board .window) js ss (ok .whole .does))
 
     kept : Kept board js ss (tableOf (board .window) ss)
-    kept = record { whole = ok .whole; timetable = table-timetable board ss accepted-fits; few = accepted-few }
+    kept =
+        record {
+          whole = ok .whole;
+          timetable = table-timetable board ss accepted-fits;
+          few-movers = ok .few-movers;
+          one-uneven = ok .one-uneven;
+          few-slices = accepted-few;
+        }
 
   -- What the code asks before it places the first shares of an array.
   pub table-asks : (shares : List Share) (count : ℕ) → length js ≤ jobsMost → count ≤ jobsMost → sharesOf board n js ≡ given (take count shares)

@@ -2,7 +2,9 @@
 --   noJob, noSlice   what stands in rows that are not used
 --   Filled       the plan by value: the answer, and every row of both tables
 --   Unchanged    demand 1: a refusal changes no row of the lent tables
---   Served       demand 2: the shares are a split in whole ticks, and the rows are a timetable of them
+--   Kept         what demand 2 says of a plan: its shares are a split in whole ticks, at most m1 + m2 of them move and at most one mover is
+--                not even, and its rows are a timetable of them, at most n + 2·(m1 + m2) − 2
+--   Served       demand 2: an accepted plan is one of which this is kept
 --   ForRoom      demand 3: a refusal for room, and when exactly it is given
 --   Promised     the lent planning call: the answer, every row of both tables, and the three demands in their own words
 -- Assumes nothing.
@@ -13,6 +15,7 @@ use Prim.Native.Nat.{ℕ, _+_, _-_, _*_, _≤_}
 use lib.ListN.{length, take, replicate}
 use Rattle.model.specs.Board.{roomOf}
 use Rattle.model.specs.Limits.{jobsMost, slicesMost}
+use Rattle.model.specs.Movers.{movers, unevens}
 use Rattle.model.specs.Refusal.{given, refused}
 use Rattle.model.specs.Split.{share, Whole}
 use Rattle.model.specs.Timetable.{Timetable}
@@ -52,7 +55,9 @@ Unchanged (Refused r) ss ss′ ls ls′ = (ss′ ≡ ss) × (ls′ ≡ ls)
 pub record Kept (board : Board) (js : List Job) (ss : List Share) (rows : List Slice) : Type 0 where
   pub whole : Whole (board .window) (roomOf board First) (roomOf board Second) js ss
   pub timetable : Timetable board ss rows
-  pub few : length rows + 2 ≤ length js + 2 * (board .first + board .second)
+  pub few-movers : movers ss ≤ board .first + board .second
+  pub one-uneven : unevens (board .window) ss ≤ 1
+  pub few-slices : length rows + 2 ≤ length js + 2 * (board .first + board .second)
 
 abbrev pub Served : Board → List Job → Planned → List Share → List Slice → Type 0
 Served board js (Plan jobs slices) ss′ ls′ = Kept board js (take jobs ss′) (take slices ls′)
