@@ -1,16 +1,19 @@
--- Every refusal of the planning call has a cause: where the definition of the plan refuses a set, the refusal is listed. Each test of the
--- definition tells whether a fact holds, and the tests are taken in their order. Assumes nothing.
---   Tells         a test tells whether a fact holds
---   lowest-of     the lowest job that a test refuses, where there is one
---   none-of       where there is none, the fact holds of no job
---   plan-listed   a refusal of the plan is listed, with its place and its cause
-use mathlib.Core.Path.{_≡_, refl}
+-- Every refusal of the planning call has a cause, and every cause its refusal: the definition of the plan refuses a set exactly as it is
+-- listed. Each test of the definition tells whether a fact holds, and the tests are taken in their order. Assumes nothing.
+--   Tells          a test tells whether a fact holds
+--   lowest-of      the lowest job that a test refuses, where there is one; none-of: where there is none, the fact holds of no job
+--   lowest-is, none-lowest   the same the other way round
+--   plan-listed    a refusal of the plan is listed, with its place and its cause
+--   lawful-legal   a lawful set passes the checks
+--   listed-plan    what is listed is the refusal of the plan
+--   short-tables, lawful-left   tables that are refused may be too short, and a lawful set is refused for room or for such tables
+use mathlib.Core.Path.{_≡_, refl, _∙_}
 use mathlib.Core.Bool.{Bool, true, false, cond, _&&_, _||_}
 use mathlib.Core.List.{List, [], _∷_}
 use mathlib.Core.Logic.{_⊎_, inl, inr, ⊎-elim}
 use Prim.Native.Nat.{ℕ, zero, suc, _+_, _≤_, _<_}
 use native.Mathlib.Omega.{arith}
-use borrow.Author.Tests.{ltb-true, ltb-false}
+use borrow.Author.Tests.{ltb-true, ltb-false, lt-ltb, le-ltb}
 use lib.Dec.{leb, ltb}
 use lib.ListN.{length, getD}
 use Rattle.model.specs.Limits.{windowMost, coresMost, jobsMost, costMost}
@@ -22,18 +25,20 @@ use Rattle.model.specs.declared.Board.{Board}
 use Rattle.model.specs.declared.Job.{Job}
 use Rattle.model.specs.declared.Job.the-variants.{Both, OnlyFirst, OnlySecond}
 use Rattle.model.specs.declared.Share.{Share}
-use Rattle.legal.specs.Lawful.{Lawful}
+use Rattle.model.proofs.Lists.{all-map, all-at}
+use Rattle.legal.specs.Lawful.{LegalJob, Lawful}
 use Rattle.legal.specs.Legal.{outside, badCost, tooLong, failsOf, lowest, legalOf}
 use Rattle.legal.specs.declared.Test.the-variants.{Cost, Long}
 use Rattle.legal.proofs.Lawful.{legal-lawful}
 use Rattle.slices.specs.Table.{tableOf}
+use Rattle.split.specs.Promise.{Accepted}
 use Rattle.split.specs.Steps.{hereSum, thereSum}
 use Rattle.split.specs.Shares.{sharesSeen, settled, byOver}
 use Rattle.split.specs.declared.Row.{Row}
-use Rattle.planner.specs.Listed.{Outside, BadCost, TooLong, LowestOf, Sound, stepsOn, Listed, window, cores, many, cost, long, room, space}
+use Rattle.planner.specs.Listed.{Outside, BadCost, TooLong, LowestOf, Sound, stepsOn, ShortTables, Listed, window, cores, many, cost, long, room, space}
 use Rattle.planner.specs.Plan.{fitted, planOf}
 use Rattle.planner.specs.Promise.{noJob}
-use Rattle.planner.proofs.Plans.{do-length, shares-accepted}
+use Rattle.planner.proofs.Plans.{do-length, shares-accepted, accepted-few}
 
 -- ---- tests
 data Tells (P : Type 0) : Bool → Type 0 where
@@ -56,6 +61,14 @@ and-tells : {P Q : Type 0} {s t : Bool} → Tells P s → Tells Q t → Tells (P
 and-tells (holds p) (holds q) = holds (p, q)
 and-tells (holds p) (fails q) = fails (λ x. q (x .1))
 and-tells (fails p) q = fails (λ x. p (x .0))
+
+told : {P : Type 0} {t : Bool} → Tells P t → P → t ≡ true
+told (holds p) q = refl
+told (fails never) q = absurd (never q)
+
+untold : {P : Type 0} {t : Bool} → Tells P t → (P → ⊥) → t ≡ false
+untold (holds p) never = absurd (never p)
+untold (fails p) never = refl
 
 outside-tells : (most x : ℕ) → Tells (Outside most x) (outside most x)
 outside-tells most x = or-tells (less-tells x 1) (less-tells most x)
@@ -100,6 +113,19 @@ module _ (test : Job → Bool) (Bad : Job → Type 0) (tells : (j : Job) → Tel
   none-of [] l = tt
   none-of (j ∷ js) l = none-in-front j js (lowest test js) (tells j) (none-of js) l
 
+  lowest-is : (js : List Job) (job : ℕ) → LowestOf Bad js job → lowest test js ≡ job
+  unfolding lowest
+  lowest-is [] job low = absurd (omega (arith, low .there))
+  lowest-is (j ∷ js) zero low = rw (told (tells j) (low .bad))
+  lowest-is (j ∷ js) (suc job) low =
+      rw (untold (tells j) (low .lower 0 (omega arith)))
+      (omega (arith, lowest-is js job (record { there = omega (arith, low .there); bad = low .bad; lower = λ i l. low .lower (suc i) (omega arith) })))
+
+  none-lowest : (js : List Job) → All (λ (j : Job). Bad j → ⊥) js → lowest test js ≡ length js
+  unfolding lowest
+  none-lowest [] h = refl
+  none-lowest (j ∷ js) h = rw (untold (tells j) (h .0)) (omega (arith, none-lowest js (h .1)))
+
 -- ---- the steps refuse by number 6 alone
 abbrev ForRoom : Answer (List Share) → Type 0
 ForRoom (given ss) = Unit {0}
@@ -122,6 +148,12 @@ over-room false true w room1 room2 js = settled-room Second room2 room1 _
 over-room false false w room1 room2 js = tt
 
 -- ---- the tests in their order
+abbrev lowestCost : Board → List Job → ℕ
+lowestCost board js = lowest (failsOf Cost (board .window)) js
+
+abbrev lowestLong : Board → List Job → ℕ
+lowestLong board js = lowest (failsOf Long (board .window)) js
+
 module _ (board : Board) (js : List Job) (m k : ℕ) where
   abbrev ListedIn : {A : Type 0} → Answer A → Type 0
   ListedIn (given x) = Unit {0}
@@ -132,12 +164,6 @@ module _ (board : Board) (js : List Job) (m k : ℕ) where
   by-test x y (holds p) stops goes = stops p
   by-test x y (fails p) stops goes = goes p
 
-  abbrev bad : ℕ
-  bad = lowest (failsOf Cost (board .window)) js
-
-  abbrev slow : ℕ
-  slow = lowest (failsOf Long (board .window)) js
-
   legal-listed : ListedIn (legalOf board (length js) js)
   unfolding legalOf
   legal-listed =
@@ -145,9 +171,9 @@ module _ (board : Board) (js : List Job) (m k : ℕ) where
       (λ short. by-test _ _ (or-tells (outside-tells coresMost (board .first)) (outside-tells coresMost (board .second))) (cores short)
       (λ kinds. let sound : Sound board = record { window = short; first = λ h. kinds (inl h); second = λ h. kinds (inr h) } in
       by-test _ _ (less-tells jobsMost (length js)) (many sound)
-      (λ few. by-test _ _ (less-tells bad (length js)) (λ l. cost bad (lowest-of _ BadCost cost-tells js l) sound (omega arith))
-      (λ costs. by-test _ (given tt) (less-tells slow (length js))
-      (λ l. long slow (lowest-of _ (TooLong (board .window)) (long-tells (board .window)) js l) sound (omega arith)
+      (λ few. by-test _ _ (less-tells (lowestCost board js) (length js)) (λ l. cost _ (lowest-of _ BadCost cost-tells js l) sound (omega arith))
+      (λ costs. by-test _ (given tt) (less-tells (lowestLong board js) (length js))
+      (λ l. long _ (lowest-of _ (TooLong (board .window)) (long-tells (board .window)) js l) sound (omega arith)
       (none-of _ BadCost cost-tells js (omega arith)))
       (λ _. tt)))))
 
@@ -178,3 +204,105 @@ module _ (board : Board) (js : List Job) (m k : ℕ) where
 
   pub plan-listed : (number place : ℕ) → planOf board (length js) js m k ≡ refused number place → Listed board js m k number place
   plan-listed number place is = rw is at listed-in
+
+-- ---- and back: a set that has the cause of a line, and none of the lines above it, is refused by it
+inside : (most x : ℕ) → 1 ≤ x → x ≤ most → Outside most x → ⊥
+inside most x low high = ⊎-elim (λ l. omega arith) (λ l. omega arith)
+
+module _ (board : Board) (js : List Job) where
+  lawful-sound : Lawful board (length js) js → Sound board
+  lawful-sound law =
+      record {
+        window = inside windowMost (board .window) (law .window-some) (law .window-most);
+        first = inside coresMost (board .first) (law .first-some) (law .first-most);
+        second = inside coresMost (board .second) (law .second-some) (law .second-most);
+      }
+
+  job-costs : (j : Job) → LegalJob (board .window) j → BadCost j → ⊥
+  job-costs (Both c1 c2) l = ⊎-elim (inside costMost (c1 .0) (l .0) (l .3)) (inside costMost (c2 .0) (l .1) (l .4))
+  job-costs (OnlyFirst c1) l = inside costMost (c1 .0) (l .0) (l .2)
+  job-costs (OnlySecond c2) l = inside costMost (c2 .0) (l .0) (l .2)
+
+  job-short : (j : Job) → LegalJob (board .window) j → TooLong (board .window) j → ⊥
+  job-short (Both c1 c2) l above = omega arith
+  job-short (OnlyFirst c1) l above = omega arith
+  job-short (OnlySecond c2) l above = omega arith
+
+  lawful-costs : Lawful board (length js) js → All (λ (j : Job). BadCost j → ⊥) js
+  lawful-costs law = all-map _ _ job-costs js (law .jobs)
+
+  lawful-short : Lawful board (length js) js → All (λ (j : Job). TooLong (board .window) j → ⊥) js
+  lawful-short law = all-map _ _ job-short js (law .jobs)
+
+  abbrev cores-tell : Tells (Outside coresMost (board .first) ⊎ Outside coresMost (board .second)) (outside coresMost (board .first) || outside coresMost (board .second))
+  cores-tell = or-tells (outside-tells coresMost (board .first)) (outside-tells coresMost (board .second))
+
+  -- The checks over the jobs, which come after those of the board.
+  abbrev overJobs : (bad slow : ℕ) → Answer (Unit {0})
+  overJobs bad slow =
+      cond (ltb jobsMost (length js)) (refused 3 jobsMost)
+      (cond (ltb bad (length js)) (refused 4 bad) (cond (ltb slow (length js)) (refused 5 slow) (given tt)))
+
+  sound-legal : Sound board → legalOf board (length js) js ≡ overJobs (lowestCost board js) (lowestLong board js)
+  unfolding legalOf
+  sound-legal sound =
+      rw (untold (outside-tells windowMost (board .window)) (sound .window), untold cores-tell (⊎-elim (sound .first) (sound .second)))
+
+  lawful-legal : Lawful board (length js) js → legalOf board (length js) js ≡ given tt
+  lawful-legal law =
+      sound-legal (lawful-sound law) ∙
+      rw (
+        le-ltb jobsMost (length js) (law .few),
+        none-lowest _ BadCost cost-tells js (lawful-costs law),
+        none-lowest _ (TooLong (board .window)) (long-tells (board .window)) js (lawful-short law),
+        le-ltb (length js) (length js) (omega arith),
+      )
+
+  steps-accepted : (ss : List Share) → Lawful board (length js) js → stepsOn board js ≡ given ss → Accepted board js ss
+  steps-accepted ss law is = shares-accepted board (length js) js (rw (lawful-legal law) is)
+
+  module _ (m k : ℕ) where
+    pub short-tables : (ss : List Share) → Lawful board (length js) js → stepsOn board js ≡ given ss
+        → (m < length js) ⊎ (k < length (tableOf (board .window) ss)) → ShortTables board js m k
+    short-tables ss law is =
+        ⊎-elim inl (λ l. inr (omega (arith, accepted-few board (length js) js ss law (steps-accepted ss law is))))
+
+    legal-refused : {number place : ℕ} → legalOf board (length js) js ≡ refused number place → planOf board (length js) js m k ≡ refused number place
+    legal-refused e = rw e
+
+    pub listed-plan : {number place : ℕ} → Listed board js m k number place → planOf board (length js) js m k ≡ refused number place
+    unfolding legalOf
+    listed-plan (window cause) = legal-refused (rw (told (outside-tells windowMost (board .window)) cause))
+    listed-plan (cores short cause) = legal-refused (rw (untold (outside-tells windowMost (board .window)) short, told cores-tell cause))
+    listed-plan (many sound cause) = legal-refused (sound-legal sound ∙ rw (lt-ltb jobsMost (length js) cause))
+    listed-plan (cost job low sound few) =
+        legal-refused (sound-legal sound ∙
+        rw (le-ltb jobsMost (length js) few, lowest-is _ BadCost cost-tells js job low, lt-ltb job (length js) (low .there)))
+    listed-plan (long job low sound few costs) =
+        legal-refused (sound-legal sound ∙
+        rw (
+          le-ltb jobsMost (length js) few,
+          none-lowest _ BadCost cost-tells js costs,
+          le-ltb (length js) (length js) (omega arith),
+          lowest-is _ (TooLong (board .window)) (long-tells (board .window)) js job low,
+          lt-ltb job (length js) (low .there),
+        ))
+    listed-plan (room law is) = rw (lawful-legal law, is)
+    listed-plan (space ss law is cause) =
+        rw (
+          lawful-legal law,
+          is,
+          told (or-tells (less-tells m (length ss)) (less-tells k (length (tableOf (board .window) ss))))
+              (rw (do-length (board .window) js ss (steps-accepted ss law is .whole .does)) cause),
+        )
+
+    -- A lawful set is refused for room, or for tables that may be too short: a plan has few slices.
+    pub lawful-left : {number place : ℕ} → Lawful board (length js) js → Listed board js m k number place
+        → ((number ≡ 6) × (place ≡ 0)) ⊎ ShortTables board js m k
+    lawful-left law (window cause) = absurd (lawful-sound law .window cause)
+    lawful-left law (cores short cause) = absurd (⊎-elim (lawful-sound law .first) (lawful-sound law .second) cause)
+    lawful-left law (many sound cause) = absurd (omega (arith, law .few))
+    lawful-left law (cost job low sound few) = absurd (all-at _ noJob js job (low .there) (lawful-costs law) (low .bad))
+    lawful-left law (long job low sound few costs) = absurd (all-at _ noJob js job (low .there) (lawful-short law) (low .bad))
+    lawful-left law (room _ is) = inl (refl, refl)
+    lawful-left law (space ss _ is cause) = inr (short-tables ss law is cause)

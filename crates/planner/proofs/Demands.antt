@@ -3,14 +3,15 @@
 -- given the jobs js and tables that hold ss and ls, it answers r, and the tables then hold ss′ and ls′.
 -- The words are those of the model: Does (one job's work), Runs (a tick of a slice), SameCore, ticksIn, Split. Assumes nothing.
 use mathlib.Core.List.{List}
-use mathlib.Core.Logic.{_↔_}
-use mathlib.Core.Path.{_≡_}
-use Prim.Native.Nat.{ℕ, _-_, _≤_, _<_}
+use mathlib.Core.Logic.{_↔_, ⊎-elim}
+use mathlib.Core.Path.{_≡_, refl, ap, _∙_}
+use Prim.Native.Nat.{ℕ, _+_, _-_, _*_, _≤_, _<_}
 use native.Mathlib.Omega.{arith}
-use lib.ListN.{length, take, getD}
+use lib.ListN.{length, take, drop, getD, length-take}
 use lib.Seq.{getD-take}
 use Rattle.model.specs.Board.{roomOf}
 use Rattle.model.specs.Limits.{jobsMost}
+use Rattle.model.specs.Movers.{movers, unevens}
 use Rattle.model.specs.Refusal.{Answer, given, refused, numberOf, placeOf}
 use Rattle.model.specs.Split.{share, ticksOn, Does, Split}
 use Rattle.model.specs.Timetable.{Runs, SameCore, Inside, ticksIn}
@@ -22,15 +23,16 @@ use Rattle.model.specs.declared.Refusal.{Refusal}
 use Rattle.model.specs.declared.Share.{Share}
 use Rattle.model.specs.declared.Slice.{Slice}
 use Rattle.model.proofs.Lists.{all-at}
+use Rattle.legal.specs.Lawful.{Lawful}
 use Rattle.legal.specs.Legal.{legalOf}
-use Rattle.split.specs.Promise.{stretchedOn}
-use Rattle.planner.specs.Listed.{Listed, window, cores, many, cost, long, room, space}
-use Rattle.planner.specs.Plan.{Counts, saysPlanned}
+use Rattle.split.specs.Promise.{stretchedOn, SmallerSplit}
+use Rattle.planner.specs.Listed.{BadCost, TooLong, LowestOf, ShortTables, Listed, window, cores, many, cost, long, room, space}
+use Rattle.planner.specs.Plan.{Counts, planOf, countsIn, saysPlanned}
 use Rattle.planner.specs.Place.{noSlice}
 use Rattle.planner.specs.Promise.{noJob, Promised}
 use Rattle.planner.specs.declared.Planned.{Planned}
 use Rattle.planner.specs.declared.Planned.the-variants.{Plan, Refused}
-use Rattle.planner.proofs.Causes.{plan-listed}
+use Rattle.planner.proofs.Causes.{plan-listed, listed-plan, short-tables, lawful-left}
 use Rattle.planner.proofs.Said.{do-at, counts-there, rows-pair, call-refused}
 
 -- ==== Demand 1. Any input at all is planned or refused by number and place. Nothing is left to the caller to check, every call ends, a
@@ -61,12 +63,67 @@ module _ {board : Board} {js : List Job} {ss ss′ : List Share} {ls ls′ : Lis
   any-input-answered (Refused refusal) p =
       plan-listed board js (length ss) (length ls) (numberOf refusal) (placeOf refusal) (call-refused p)
 
+  module _ {r : Planned} (p : Promised board js ss ls r ss′ ls′) where
+    -- A refusal is given exactly when its line of the table applies, and no line above it.
+    pub refused-exactly : {number place : ℕ} → (saysPlanned r ≡ refused number place) ↔ Listed board js (length ss) (length ls) number place
+    refused-exactly = (
+      λ e. rw e at (any-input-answered r p),
+      λ listed. p .answer ∙ ap countsIn (listed-plan board js (length ss) (length ls) listed),
+    )
+
+    -- So the place of refusal 4 is the lowest job with a cost outside the limits, and that of refusal 5 the lowest that is too long.
+    pub lowest-cost : {job : ℕ} → saysPlanned r ≡ refused 4 job → LowestOf BadCost js job
+    lowest-cost e = of-four (refused-exactly .0 e)
+      where
+        of-four : {m k job : ℕ} → Listed board js m k 4 job → LowestOf BadCost js job
+        of-four (cost job lowest sound few) = lowest
+
+    pub lowest-long : {job : ℕ} → saysPlanned r ≡ refused 5 job → LowestOf (TooLong (board .window)) js job
+    lowest-long e = of-five (refused-exactly .0 e)
+      where
+        of-five : {m k job : ℕ} → Listed board js m k 5 job → LowestOf (TooLong (board .window)) js job
+        of-five (long job lowest sound few costs) = lowest
+
+    -- Tables with a row for each job and for the most slices of the set are never refused.
+    pub space-only : saysPlanned r ≡ refused 7 0 → ShortTables board js (length ss) (length ls)
+    space-only e = of-seven (refused-exactly .0 e)
+      where
+        of-seven : {m k : ℕ} → Listed board js m k 7 0 → ShortTables board js m k
+        of-seven {m} {k} (space shares law is cause) = short-tables board js m k shares law is cause
+
   -- A refusal changes no entry of the lent tables.
   pub refusal-changes-nothing : {refusal : Refusal} → Promised board js ss ls (Refused refusal) ss′ ls′ → (ss′ ≡ ss) × (ls′ ≡ ls)
   refusal-changes-nothing p = p .demand1
 
-  -- ==== Demand 2. In every accepted plan each job gets its whole work, no core runs two jobs at once, no job is in two places at once.
+  -- ==== Demand 2. Every accepted plan is the one of Hetero-Split and Hetero-Wrap as SPEC states them. In it each job gets its whole work,
+  -- no core runs two jobs at once, no job is in two places at once.
   module _ {jobs slices : ℕ} (p : Promised board js ss ls (Plan jobs slices) ss′ ls′) where
+    -- There is a share for each job, and as many rows as are counted are in the tables.
+    pub rows-there : (jobs ≡ length js) × (jobs ≤ length ss′) × (slices ≤ length ls′)
+    rows-there = (
+      counts-there p .all,
+      omega (arith, counts-there p .share-rows, length-take jobs ss′),
+      omega (arith, counts-there p .slice-rows, length-take slices ls′),
+    )
+
+    -- The rows that are counted are those of the rules, one by one: `planOf` is the steps of the split, and the table of their shares.
+    pub rows-by-rules : planOf board (length js) js (length ss) (length ls) ≡ given (record { shares = take jobs ss′; slices = take slices ls′ })
+    rows-by-rules = counts-there p .by-rules
+
+    -- The rows past them stay as they were.
+    pub rows-past : (drop jobs ss′ ≡ drop jobs ss) × (drop slices ls′ ≡ drop slices ls)
+    rows-past = (counts-there p .shares-past, counts-there p .slices-past)
+
+    -- At most m1 + m2 jobs move, at most one of them is not even, and there are at most n + 2·(m1 + m2) − 2 slices.
+    pub movers-few : movers (take jobs ss′) ≤ board .first + board .second
+    movers-few = p .demand2 .few-movers
+
+    pub one-uneven : unevens (board .window) (take jobs ss′) ≤ 1
+    one-uneven = p .demand2 .one-uneven
+
+    pub slices-few : slices + 2 ≤ length js + 2 * (board .first + board .second)
+    slices-few = omega (arith, p .demand2 .few-slices, counts-there p .slice-rows)
+
     -- Row i of the table of slices, and the share of job j.
     abbrev row : ℕ → Slice
     row i = getD ls′ i noSlice
@@ -116,3 +173,11 @@ module _ {board : Board} {js : List Job} {ss ss′ : List Share} {ls ls′ : Lis
     pub room-exactly : legalOf board (length js) js ≡ given tt → stretchedOn board js First ≡ 0 → stretchedOn board js Second ≡ 0
         → (saysPlanned r ≡ refused 6 0) ↔ (Split (board .window) (roomOf board First) (roomOf board Second) js → ⊥)
     room-exactly = p .demand3 .exactly
+
+  -- Demands 1 and 3 together: a lawful set that has a split on the smaller board is planned, in tables that are long enough.
+  pub split-planned : (r : Planned) → Promised board js ss ls r ss′ ls′ → Lawful board (length js) js → SmallerSplit board js
+      → (ShortTables board js (length ss) (length ls) → ⊥) → (jobs : ℕ) × (slices : ℕ) × (r ≡ Plan jobs slices)
+  split-planned (Plan jobs slices) p law split enough = (jobs, slices, refl)
+  split-planned (Refused refusal) p law split enough =
+      absurd (⊎-elim (λ six. room-only p (rw (six .0, six .1) refl) split) enough
+      (lawful-left board js (length ss) (length ls) law (any-input-answered (Refused refusal) p)))

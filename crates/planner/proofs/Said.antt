@@ -2,15 +2,16 @@
 -- demands. Assumes nothing.
 --   do-at          shares that do the jobs, job by job
 --   counts-are     the counts of an accepted plan are those of the definition's
---   counts-there   an accepted plan has a share for each job, and the rows that it counts are there
+--   counts-there   an accepted plan has a share for each job, the rows that it counts are there and are the definition's, and those past
+--                  them are as they were
 --   rows-pair      what every two rows of a plan's table have between them, by their numbers
 --   call-refused   a refusal is the definition's
-use mathlib.Core.Path.{_≡_, ap}
+use mathlib.Core.Path.{_≡_, refl, ap}
 use mathlib.Core.List.{List, [], _∷_}
-use Prim.Native.Nat.{ℕ, zero, suc, _≤_, _<_}
+use Prim.Native.Nat.{ℕ, zero, suc, _<_}
 use native.Mathlib.Omega.{arith}
-use lib.ListN.{length, take, drop, getD, length-append}
-use lib.Seq.{length-take-le, getD-take}
+use lib.ListN.{length, take, drop, getD}
+use lib.Seq.{take-append-seam, drop-append-seam, getD-take}
 use Rattle.model.specs.Lists.{Pairs}
 use Rattle.model.specs.Refusal.{Answer, given, refused, saysRefusal}
 use Rattle.model.specs.Split.{Does, Do}
@@ -33,32 +34,44 @@ do-at w n a b (x ∷ js) (s ∷ ss) zero l d = d .0
 do-at w n a b (x ∷ js) (s ∷ ss) (suc j) l d = do-at w n a b js ss j (omega arith) (d .1)
 
 -- ---- the counts
-pub counts-are : (jobs slices : ℕ) (x : Answer Plan) → saysPlanned (Counted jobs slices) ≡ countsIn x
+counts-are : (jobs slices : ℕ) (x : Answer Plan) → saysPlanned (Counted jobs slices) ≡ countsIn x
     → (jobs ≡ length (sharesIn x)) × (slices ≡ length (slicesIn x))
 counts-are jobs slices (given p) says =
     let same : _≡_ {A = Counts} (record { jobs = jobs; slices = slices }) (record { jobs = length (p .shares); slices = length (p .slices) }) = cc in
     (ap (λ (c : Counts). c .jobs) same, ap (λ (c : Counts). c .slices) same)
 counts-are jobs slices (refused number place) says = let z : _≡_ {A = ℕ} 0 1 = cc in absurd (omega arith)
 
-pub record There (js : List Job) (ss′ : List Share) (ls′ : List Slice) (jobs slices : ℕ) : Type 0 where
+pub record There (board : Board) (js : List Job) (ss ss′ : List Share) (ls ls′ : List Slice) (jobs slices : ℕ) : Type 0 where
   pub all : jobs ≡ length js
   pub share-rows : length (take jobs ss′) ≡ jobs
   pub slice-rows : length (take slices ls′) ≡ slices
+  pub by-rules : planOf board (length js) js (length ss) (length ls) ≡ given (record { shares = take jobs ss′; slices = take slices ls′ })
+  pub shares-past : drop jobs ss′ ≡ drop jobs ss
+  pub slices-past : drop slices ls′ ≡ drop slices ls
 
-front-there : {A : Type 0} (new old now : List A) (n : ℕ) → n ≡ length new → now ≡ front new old → length (take n now) ≡ n
-front-there new old now n size is =
-    length-take-le n now (omega (arith, ap length is, length-append new (drop (length new) old)))
+-- Rows at the front of a table: those that were counted are the new ones, and the others are the old ones.
+front-rows : {A : Type 0} (new old now : List A) (n : ℕ) → n ≡ length new → now ≡ front new old → (take n now ≡ new) × (drop n now ≡ drop n old)
+front-rows new old now n size is = rw (size, is) (take-append-seam new _, drop-append-seam new _)
+
+plan-of : (ss : List Share) (ls : List Slice) (counts : Counts) (x : Answer Plan) → given counts ≡ countsIn x → ss ≡ sharesIn x → ls ≡ slicesIn x
+    → x ≡ given (record { shares = ss; slices = ls })
+plan-of ss ls counts (given p) says shares slices = rw (shares, slices) refl
+plan-of ss ls counts (refused number place) says shares slices = let z : _≡_ {A = ℕ} 0 1 = cc in absurd (omega arith)
 
 pub counts-there : {board : Board} {js : List Job} {ss ss′ : List Share} {ls ls′ : List Slice} {jobs slices : ℕ}
-    → Promised board js ss ls (Counted jobs slices) ss′ ls′ → There js ss′ ls′ jobs slices
+    → Promised board js ss ls (Counted jobs slices) ss′ ls′ → There board js ss ss′ ls ls′ jobs slices
 counts-there {board} {js} {ss} {ss′} {ls} {ls′} {jobs} {slices} p =
     let x = planOf board (length js) js (length ss) (length ls) in
     let counts = counts-are jobs slices x (p .answer) in
-    let shares = front-there (sharesIn x) ss ss′ jobs (counts .0) (p .shares) in
+    let shares = front-rows (sharesIn x) ss ss′ jobs (counts .0) (p .shares) in
+    let rows = front-rows (slicesIn x) ls ls′ slices (counts .1) (p .slices) in
     record {
-      all = omega (arith, do-length (board .window) js (take jobs ss′) (p .demand2 .whole .does));
-      share-rows = shares;
-      slice-rows = front-there (slicesIn x) ls ls′ slices (counts .1) (p .slices);
+      all = omega (arith, counts .0, ap length (shares .0), do-length (board .window) js (take jobs ss′) (p .demand2 .whole .does));
+      share-rows = omega (arith, counts .0, ap length (shares .0));
+      slice-rows = omega (arith, counts .1, ap length (rows .0));
+      by-rules = plan-of (take jobs ss′) (take slices ls′) _ x (p .answer) (shares .0) (rows .0);
+      shares-past = shares .1;
+      slices-past = rows .1;
     }
 
 pub rows-pair : {board : Board} {js : List Job} {ss ss′ : List Share} {ls ls′ : List Slice} {jobs slices : ℕ}

@@ -1,17 +1,19 @@
--- The refusals of a set, each by its number, with its place and its cause: document 01, "Refusals by number", line by line, from 1 to 7.
--- Each is there only where the causes of the lines above it do not hold of any job.
+-- The refusals of a set: document 01, "Refusals by number", line by line from 1 to 7. Each line has its number, its place and its cause, and
+-- says that no line above it applies. A call is refused exactly so: `refused-exactly` in proofs/Demands.antt.
 --   Outside      a number that is not in 1 to a limit
---   BadCost      line 4 of one job: a cost on a kind that it is allowed on is outside 1 to the limit
---   TooLong      line 5 of one job: each cost on a kind that it is allowed on is above W
---   LowestOf     a job of the set of which something holds, where it holds of none before it
---   Sound        a board that has neither cause 1 nor cause 2
+--   BadCost      line 4, of one job: a cost on a kind that it may use is outside 1 to the limit
+--   TooLong      line 5, of one job: all its costs on the kinds that it may use are above W
+--   LowestOf     a job of the set of which something holds that holds of none before it
+--   Sound        a board to which lines 1 and 2 do not apply
 --   stepsOn      what the steps of the split answer, on the rooms of a board
+--   ShortTables  tables of m shares and k slices that may be too short: m is below the count of jobs, or k below the most slices of a plan
+--                of them
 --   Listed       a refusal of the jobs js on a board, for tables of m shares and k slices
 -- Assumes nothing.
 use mathlib.Core.List.{List}
 use mathlib.Core.Logic.{_⊎_}
 use mathlib.Core.Path.{_≡_}
-use Prim.Native.Nat.{ℕ, _≤_, _<_}
+use Prim.Native.Nat.{ℕ, _+_, _*_, _≤_, _<_}
 use lib.ListN.{length, getD}
 use Rattle.model.specs.Board.{roomOf}
 use Rattle.model.specs.Limits.{windowMost, coresMost, jobsMost, costMost}
@@ -52,6 +54,9 @@ pub record Sound (board : Board) : Type 0 where
 
 abbrev pub stepsOn : Board → List Job → Answer (List Share)
 stepsOn board js = splitOf (board .window) (roomOf board First) (roomOf board Second) js
+
+abbrev pub ShortTables : Board → List Job → (m k : ℕ) → Type 0
+ShortTables board js m k = (m < length js) ⊎ (k + 2 < length js + 2 * (board .first + board .second))
 
 pub data Listed (board : Board) (js : List Job) (m k : ℕ) : (number place : ℕ) → Type 0 where
   window : Outside windowMost (board .window) → Listed board js m k 1 0
