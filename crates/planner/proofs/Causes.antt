@@ -1,8 +1,8 @@
 -- Every refusal of the planning call has a cause, and every cause its refusal: the definition of the plan refuses a set exactly as it is
 -- listed. Each test of the definition tells whether a fact holds, and the tests are taken in their order. Assumes nothing.
 --   Tells          a test tells whether a fact holds
---   lowest-of      the lowest job that a test refuses, where there is one; none-of: where there is none, the fact holds of no job
---   lowest-is, none-lowest   the same the other way round
+--   lowest-is      the lowest job of which a fact holds is the lowest that the test refuses, and lowest-of: the other way round
+--   none-lowest    where the fact holds of no job, the test refuses none, and none-of: the other way round
 --   plan-listed    a refusal of the plan is listed, with its place and its cause
 --   lawful-legal   a lawful set passes the checks
 --   listed-plan    what is listed is the refusal of the plan
@@ -85,6 +85,19 @@ long-tells w (OnlySecond c2) = less-tells w (c2 .0)
 
 -- ---- the lowest job
 module _ (test : Job → Bool) (Bad : Job → Type 0) (tells : (j : Job) → Tells (Bad j) (test j)) where
+  lowest-is : (js : List Job) (job : ℕ) → LowestOf Bad js job → lowest test js ≡ job
+  unfolding lowest
+  lowest-is [] job low = absurd (omega (arith, low .there))
+  lowest-is (j ∷ js) zero low = rw (told (tells j) (low .bad))
+  lowest-is (j ∷ js) (suc job) low =
+      rw (untold (tells j) (low .lower 0 (omega arith)))
+      (omega (arith, lowest-is js job (record { there = omega (arith, low .there); bad = low .bad; lower = λ i l. low .lower (suc i) (omega arith) })))
+
+  none-lowest : (js : List Job) → All (λ (j : Job). Bad j → ⊥) js → lowest test js ≡ length js
+  unfolding lowest
+  none-lowest [] h = refl
+  none-lowest (j ∷ js) h = rw (untold (tells j) (h .0)) (omega (arith, none-lowest js (h .1)))
+
   -- A job in front of a list: the lowest is that job, or the lowest of the list.
   in-front : (j : Job) (js : List Job) (low : ℕ) {t : Bool} → Tells (Bad j) t → (low < length js → LowestOf Bad js low)
       → cond t 0 (1 + low) < length (j ∷ js) → LowestOf Bad (j ∷ js) (cond t 0 (1 + low))
@@ -112,19 +125,6 @@ module _ (test : Job → Bool) (Bad : Job → Type 0) (tells : (j : Job) → Tel
   unfolding lowest
   none-of [] l = tt
   none-of (j ∷ js) l = none-in-front j js (lowest test js) (tells j) (none-of js) l
-
-  lowest-is : (js : List Job) (job : ℕ) → LowestOf Bad js job → lowest test js ≡ job
-  unfolding lowest
-  lowest-is [] job low = absurd (omega (arith, low .there))
-  lowest-is (j ∷ js) zero low = rw (told (tells j) (low .bad))
-  lowest-is (j ∷ js) (suc job) low =
-      rw (untold (tells j) (low .lower 0 (omega arith)))
-      (omega (arith, lowest-is js job (record { there = omega (arith, low .there); bad = low .bad; lower = λ i l. low .lower (suc i) (omega arith) })))
-
-  none-lowest : (js : List Job) → All (λ (j : Job). Bad j → ⊥) js → lowest test js ≡ length js
-  unfolding lowest
-  none-lowest [] h = refl
-  none-lowest (j ∷ js) h = rw (untold (tells j) (h .0)) (omega (arith, none-lowest js (h .1)))
 
 -- ---- the steps refuse by number 6 alone
 abbrev ForRoom : Answer (List Share) → Type 0

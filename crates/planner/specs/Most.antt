@@ -1,10 +1,13 @@
--- A set whose plan has as many slices as any can have: 64 jobs on 8 and 8 cores, 94 slices.
+-- Two sets at the limits of what a plan can have, so that neither bound can be lower.
+--   most-slices   as many jobs as there can be, on as many cores: 94 slices
+--   most-movers   two jobs on one core of each kind, and both move
 -- Assumes nothing.
-use mathlib.Core.List.{List, _∷_, _++_}
+use mathlib.Core.List.{List, [], _∷_, _++_}
 use mathlib.Core.Path.{_≡_, refl}
 use Prim.Native.Nat.{ℕ}
 use lib.ListN.{length, replicate}
 use Rattle.model.specs.Limits.{jobsMost, slicesMost}
+use Rattle.model.specs.Movers.{movers}
 use Rattle.model.specs.declared.Board.{Board}
 use Rattle.model.specs.declared.Job.{Job}
 use Rattle.model.specs.declared.Job.the-variants.{Both, OnlyFirst, OnlySecond}
@@ -13,7 +16,7 @@ use Rattle.split.specs.Home.{atHome, keepOf, giveOf}
 use Rattle.split.specs.Shares.{settled, byOver}
 use Rattle.split.specs.Steps.{better, nextFrom, movedOf, stepOf, stepsOf}
 use Rattle.slices.specs.Table.{chosen, piecesOf, cutOf, packed, tableOf}
-use Rattle.planner.specs.Plan.{planOf, slicesIn}
+use Rattle.planner.specs.Plan.{planOf, sharesIn, slicesIn}
 
 abbrev board : Board
 board = record { window = 1000; first = 8; second = 8 }
@@ -29,3 +32,7 @@ jobs =
 pub most-slices : length (slicesIn (planOf board jobsMost jobs jobsMost slicesMost)) ≡ slicesMost
 unfolding lowest legalOf atHome keepOf giveOf better nextFrom movedOf stepOf stepsOf settled byOver chosen piecesOf cutOf packed tableOf
 most-slices = refl
+
+pub most-movers : movers (sharesIn (planOf (record { window = 10; first = 1; second = 1 }) 2 (both 8 11 ∷ both 9 13 ∷ []) 2 4)) ≡ 2
+unfolding lowest legalOf atHome keepOf giveOf better nextFrom movedOf stepOf stepsOf settled byOver chosen piecesOf cutOf packed tableOf
+most-movers = refl
