@@ -122,7 +122,7 @@ module _ {board : Board} {js : List Job} {ss ss′ : List Share} {ls ls′ : Lis
     one-uneven = p .demand2 .one-uneven
 
     pub slices-few : slices + 2 ≤ length js + 2 * (board .first + board .second)
-    slices-few = omega (arith, p .demand2 .few-slices, counts-there p .slice-rows)
+    slices-few = omega (arith, p .demand2 .few, counts-there p .slice-rows)
 
     -- Row i of the table of slices, and the share of job j.
     abbrev row : ℕ → Slice

@@ -120,7 +120,7 @@ module _ (board : Board) (n : ℕ) (js : List Job) (m k : ℕ) (p : Plan) (is : 
   pub moves-few : outers (movesIn (planOf board n js m k)) + inners (movesIn (planOf board n js m k)) + 2 ≤ 2 * (board .first + board .second)
   moves-few =
       let kept = plan-kept board n js m k is in
-      omega (arith, moves-slices, kept .few-slices, do-length (board .window) js (p .shares) (kept .whole .does))
+      omega (arith, moves-slices, kept .few, do-length (board .window) js (p .shares) (kept .whole .does))
 
 -- A plan for tables that are long enough for every set is refused by 6 at most, and so never by 7.
 pub plan-roomy : (board : Board) (n : ℕ) (js : List Job) → length js ≤ jobsMost → (number place : ℕ)

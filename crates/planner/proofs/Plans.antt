@@ -97,7 +97,7 @@ module _ (board : Board) (n : ℕ) (js : List Job) where
           timetable = table-timetable board ss accepted-fits;
           few-movers = ok .few-movers;
           one-uneven = ok .one-uneven;
-          few-slices = accepted-few;
+          few = accepted-few;
         }
 
   -- What the code asks before it places the first shares of an array.

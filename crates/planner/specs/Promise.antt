@@ -57,7 +57,7 @@ pub record Kept (board : Board) (js : List Job) (ss : List Share) (rows : List S
   pub timetable : Timetable board ss rows
   pub few-movers : movers ss ≤ board .first + board .second
   pub one-uneven : unevens (board .window) ss ≤ 1
-  pub few-slices : length rows + 2 ≤ length js + 2 * (board .first + board .second)
+  pub few : length rows + 2 ≤ length js + 2 * (board .first + board .second)
 
 abbrev pub Served : Board → List Job → Planned → List Share → List Slice → Type 0
 Served board js (Plan jobs slices) ss′ ls′ = Kept board js (take jobs ss′) (take slices ls′)
