@@ -1,7 +1,7 @@
 -- Wrong planners that the promise of the planning call shuts out: document 01, "How much each promise says". A planner is any function of
--- the board, the jobs and the two lent tables. Each theorem takes one that goes wrong in some way and meets the promise, and ends in ⊥, on
--- a board with one core of each kind and a window of 10. What does it is the page of demands, Demands.antt: nothing else of the promise is
--- looked at.
+-- the board, the jobs and the two lent tables. Each theorem takes one that goes wrong in some way and meets the promise, and ends in ⊥; all
+-- but the last by a small set, on a board with one core of each kind and a window of 10. They cite the theorems of Demands.antt and no part
+-- of the promise itself. (That page reads the causes of demand 1 and the rows of demand 2 from the answer and the rows that the promise tells.)
 --   refuses-everything      demands 1 and 3: no line of the table of refusals applies to the empty set, and it has a split
 --   one-plan                demand 2: a job on the first kind alone has ticks there, and one on the second alone has none
 --   no-shares-written       demand 2: a share does the job's work
