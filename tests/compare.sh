@@ -1,9 +1,16 @@
 #!/usr/bin/env bash
 # The planner's answers are the second planner's, byte for byte, and the checker objects to none: the named sets, all small sets, and random texts.
 # The random texts are the same in each run; SEED and COUNT in the environment choose others.
-set -u
+set -u -o pipefail
 cd "$(dirname "$0")/.." || exit 2
 seed=${SEED:-1}
 count=${COUNT:-200000}
+[[ $count =~ ^[1-9][0-9]*$ ]] || { echo "COUNT is $count: not a number above 0" && exit 2; }
+# 54 named sets and 121,300 small ones at the least
+least=$((54 + 121300 + count))
 echo "named and small sets, and $count random texts of seed $seed"
-exec tools/compare named small "gen $seed $count"
+counts=$(tools/compare named small "gen $seed $count")
+status=$?
+printf '%s\n' "$counts"
+[ "$status" = 0 ] || exit "$status"
+[[ $counts =~ ^texts\ ([0-9]+), ]] && [ "${BASH_REMATCH[1]}" -ge "$least" ] || { echo "fewer than $least texts were compared" && exit 1; }

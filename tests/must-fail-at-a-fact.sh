@@ -1,14 +1,23 @@
 #!/usr/bin/env bash
 # No must-fail edit is refused only because it leaves the proof without a place to stand (`Need-..`), or is no longer well formed: that shows nothing of the
-# promise. It looks at the first error alone, and does not tell which fact failed. Run after `rt ci`, which leaves a log for each edit.
-set -u
+# promise. It looks at the first error alone, and does not tell which fact failed. Each library has an edit. Run after `rt ci`, which leaves a log
+# for each edit.
+set -u -o pipefail
 cd "$(dirname "$0")/.." || exit 2
 bad=0
+edits=0
+for library in crates/*/src/lib.rt; do
+    crate=${library%/src/lib.rt}
+    if ! ls "$crate"/must-fail/*.edit >/dev/null 2>&1; then
+        echo "$crate: no must-fail edit"
+        bad=1
+    fi
+done
 for edit in crates/*/must-fail/*.edit; do
     crate=$(basename "$(dirname "$(dirname "$edit")")")
     label=$(basename "$edit" .edit)
-    log=$(ls "target/must-fail/$crate/$label/.log" "target/must-fail/$crate/$label.log" 2>/dev/null | head -n 1)
-    if [ -z "$log" ]; then
+    log=target/must-fail/$crate/$label/.log
+    if [ ! -f "$log" ]; then
         echo "$edit: no log"
         bad=1
         continue
@@ -21,5 +30,8 @@ for edit in crates/*/must-fail/*.edit; do
         bad=1
         ;;
     esac
+    edits=$((edits + 1))
 done
+[ "$edits" != 0 ] || bad=1
+[ "$bad" != 0 ] || echo "$edits edits"
 exit $bad

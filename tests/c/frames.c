@@ -1,7 +1,8 @@
 /* Plans many texts through the C entry. Standard input holds frames: a length of four bytes, high byte first, and then so many bytes. For each
  * text the answer is written to standard output as a frame. Each text is planned three times, into a buffer of the full size, one of exactly the
  * size of the answer, and one that is a byte shorter. Text and buffers end at a page that may not be touched. The program says so and ends with
- * status 1 where the entry does anything but what its header promises. */
+ * status 1 where the entry does anything but what its header promises. With the word --most the longest answer has to be among those of the
+ * texts: a header that promises a greater one promises too much. */
 #define _DEFAULT_SOURCE
 #include "clampfern.h"
 #include <stdio.h>
@@ -14,6 +15,7 @@
 #define MARK 0xa5  /* in no answer */
 
 static unsigned long number; /* of the text */
+static size_t most;          /* bytes in an answer up to here */
 
 static void fail(const char *what)
 {
@@ -62,12 +64,13 @@ static void answer(const uint8_t *text, size_t text_len, uint8_t *wall)
         fail("another answer into a buffer of exactly its size");
     if (plan(text, text_len, wall, size - 1) != 0)
         fail("a buffer that is too short is not refused");
+    most = size > most ? size : most;
     uint8_t head[4] = {0, 0, size >> 8, size & 255};
     if (fwrite(head, 1, 4, stdout) != 4 || fwrite(full, 1, size, stdout) != size)
         fail("the answer cannot be written");
 }
 
-int main(void)
+int main(int argc, char **argv)
 {
     uint8_t *text_wall = walled(TEXT_MOST);
     uint8_t *out_wall = walled(8192);
@@ -79,5 +82,7 @@ int main(void)
         answer(text_wall - size, size, out_wall);
         number++;
     }
+    if (argc > 1 && strcmp(argv[1], "--most") == 0 && most != CLAMPFERN_OUT_MOST)
+        fail("no answer has the most bytes that one can have");
     return fflush(stdout) == 0 ? 0 : 1;
 }
