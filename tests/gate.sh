@@ -1,0 +1,199 @@
+#!/usr/bin/env bash
+# The gate and its tests cannot be hollowed out. Each is run on a small stand-in of the repository, in which `rt`, `cargo`, the C compiler and the second
+# planner say what the files of said/ have: it passes there, and fails, saying why, once something is taken away or made wrong.
+set -u -o pipefail
+cd "$(dirname "$0")/.." || exit 2
+room=$(mktemp -d) || exit
+trap 'rm -rf "$room"' EXIT
+bad=0
+tries=0
+unset SEED COUNT
+
+# ---- the stand-in, and the programs that stand in
+mkdir -p "$room/whole/said" "$room/whole/second/target/release" "$room/bin"
+cp -R .ci include tests tools "$room/whole"
+cp -R second/tests "$room/whole/second"
+eval "$(grep '^tests=(' .ci/run)"
+libraries=(model text clampfern)
+(
+    cd "$room/whole" || exit
+    printf '%s:\n' "${libraries[@]}" plan >crates.txt
+    mkdir -p crates/plan/src && touch crates/plan/src/main.rt
+    for crate in "${libraries[@]}"; do
+        mkdir -p "crates/$crate/must-fail" "target/must-fail/$crate/one"
+        cp -R "$OLDPWD/crates/$crate/src" "crates/$crate"
+        touch "crates/$crate/must-fail/one.edit"
+        echo 'src/lib.rt:1:1: error: not a fact' >"target/must-fail/$crate/one/.log"
+    done
+    cd said || exit
+    echo 'kit logic 0123' >version
+    echo 0 >status
+    {
+        printf 'logic=proved functions=1 sum=0123 native=nat\nrt: %s proved (1 s)\n' "${libraries[@]}" plan
+        printf 'rt: must-fail %s/one: refused, as it must be (first at src/lib.rt:1:1; 1 s)\n' "${libraries[@]}"
+        printf "rt: plan ran as nobody, and wrote what its file 'stdout' has (0 s)\n7 passed, 0 failed\n"
+    } >ci
+    for file in ../second/tests/*.rs; do
+        printf '     Running tests/%s (target/release/deps/x)\nrunning 100 tests\n' "$(basename "$file")"
+        echo 'test result: ok. 100 passed; 0 failed; 0 ignored; 0 measured; 0 filtered out; finished in 0.00s'
+    done >cargo
+    printf '#!/bin/sh\ncat\n' >frames
+    printf '#!/bin/sh\ncat tests/c/example.stdout\n' >example
+    printf '%s\n' 'lib.a[x.o]:' 'clampfern_plan T 0 1' 'memcpy U' 'memset U' >symbols
+    printf 'texts 54\nplans 9\n' >named
+    printf 'texts 121300\nplans 9\n' >small
+    printf 'texts 200000\nplans 9\n' >gen
+)
+cat >"$room/bin/rt" <<'END'
+#!/bin/sh
+case $1 in
+doc) echo kit/docs/first ;;
+version) cat said/version ;;
+ci) cat said/ci && exit "$(cat said/status)" ;;
+esac
+END
+cat >"$room/bin/cargo" <<'END'
+#!/bin/sh
+[ "$1" != test ] || cat ../said/cargo
+END
+cat >"$room/bin/cc" <<'END'
+#!/bin/sh
+while [ "$1" != -o ]; do shift; done
+cp "said/$(basename "$2")" "$2" && chmod +x "$2"
+END
+cat >"$room/bin/nm" <<'END'
+#!/bin/sh
+cat said/symbols
+END
+cat >"$room/whole/second/target/release/second" <<'END'
+#!/bin/sh
+[ "$1" != compare ] || { cat >&2 && cat "said/$2"; }
+END
+chmod +x "$room"/bin/* "$room/whole/second/target/release/second"
+for name in cc c++ x86_64-linux-gnu-gcc x86_64-linux-gnu-g++; do [ -e "$room/bin/$name" ] || cp "$room/bin/cc" "$room/bin/$name"; done
+cp "$room/bin/nm" "$room/bin/x86_64-linux-gnu-nm"
+
+# The gate is tried with tests that do nothing much.
+simple_tests() {
+    for name in "${tests[@]}"; do printf '%s\n' 'set -u -o pipefail' 'echo done' >"tests/$name.sh"; done
+}
+
+# ---- how it is tried
+# try CHANGE: runs the script on a new stand-in with that change; `said` is what it printed, `status` how it ended.
+try() {
+    tries=$((tries + 1))
+    rm -rf "$room/repository"
+    cp -R "$room/whole" "$room/repository"
+    said=$(
+        cd "$room/repository" && { [ "$script" != .ci/run ] || simple_tests; } && eval "$1" || { echo 'no change was made' && exit 0; }
+        PATH=$path exec bash "$script" 2>&1
+    )
+    status=$?
+}
+
+wrong() {
+    printf '%s: %s\n' "$script" "$1"
+    sed 's/^/    /' <<<"$said" | tail -n 12
+    bad=1
+}
+
+# passes SCRIPT LAST: it passes as it is, and its last line is this. The lines after are about this script.
+passes() {
+    script=$1 path=$room/bin:$PATH
+    [ "$script" != tests/header.sh ] || path=$PATH
+    try :
+    [ "$status" = 0 ] && [ "${said##*$'\n'}" = "$2" ] || wrong 'does not pass where all is well'
+}
+
+# fails SAYING CHANGE: after the change it fails, and says so.
+fails() {
+    try "$2"
+    [ "$status" != 0 ] && [[ $said == *"$1"* ]] || wrong "ends with $status after: $2"
+    [[ $script != .ci/run || ${said##*$'\n'} =~ ^[0-9]+\ passed,\ [1-9][0-9]*\ failed$ ]] || wrong "the last line is no count, after: $2"
+}
+
+# ---- the gate
+passes .ci/run "$((7 + 3 + ${#tests[@]})) passed, 0 failed"
+fails 'rt ci passed 0 of the 7 crates and edits' 'echo 0 passed, 0 failed >said/ci'
+fails 'rt ci passed 6 of the 7 crates and edits' 'sed -i "s/^7 passed/6 passed/" said/ci'
+fails 'rt ci did not say: model proved' 'echo 7 passed, 0 failed >said/ci'
+fails 'rt ci did not say: text proved' 'sed -i "/^rt: text proved/d" said/ci'
+fails 'rt ci did not say: text proved' 'sed -i "s/^rt: text proved.*/rt: text proved (unchanged since it was last proved)/" said/ci'
+fails 'rt ci did not say: model proved, logic 0123' 'sed -i "0,/sum=0123/s//sum=4567/" said/ci'
+fails 'rt ci did not say: text/one refused' 'sed -i "/^rt: must-fail text/d" said/ci'
+fails 'rt ci did not say: text/two refused' 'touch crates/text/must-fail/two.edit'
+fails 'rt ci did not say: plan run' 'sed -i "/^rt: plan ran/d" said/ci'
+fails 'rt ci did not say: more proved' 'echo more: text >>crates.txt'
+fails 'rt ci ended with status 1 and 0 failed' 'echo 1 >said/status'
+fails 'rt ci ended with status 0 and 1 failed' 'sed -i "s/0 failed/1 failed/" said/ci'
+fails 'rt ci ended with status 0 and 1 failed' 'sed -i "/ passed, /d" said/ci'
+fails 'there is nothing to prove' ': >crates.txt && rm -r crates && echo 0 passed, 0 failed >said/ci'
+fails 'rt does not name its kit' ': >said/version'
+for name in "${tests[@]}"; do
+    fails "tests/$name.sh is missing or empty" "rm tests/$name.sh"
+done
+fails 'tests/plan.sh is missing or empty' ': >tests/plan.sh'
+fails 'tests/plan.sh is missing or empty' 'printf "# a\nset -u -o pipefail\ncd ..\n\nexit 0\n" >tests/plan.sh'
+fails 'tests/more.sh is not listed' 'cp tests/plan.sh tests/more.sh'
+fails 'FAILED: tests/plan.sh' 'echo "false | true" >>tests/plan.sh'
+fails "tests/plan.sh has no line 'set -u -o pipefail'" 'echo echo done >tests/plan.sh'
+fails "tools/compare has no line 'set -u -o pipefail'" 'sed -i "s/^set .*/set -u/" tools/compare'
+
+# ---- the second planner's tests
+passes tests/second.sh "$(find second/tests -name '*.rs' | wc -l)00 tests"
+fails 'tests/scope.rs: no test ran' 'sed -i "/scope/,/result/s/100 passed/0 passed/" said/cargo'
+fails '0 ignored; 0 measured; 100 filtered out' 'sed -i "s/100 passed/0 passed/; s/0 filtered/100 filtered/" said/cargo'
+fails '1 ignored' 'sed -i "/scope/,/result/s/0 ignored/1 ignored/" said/cargo'
+fails 'tests ran, fewer than' 'sed -i "s/100 passed/1 passed/" said/cargo'
+fails 'tests ran, fewer than' ': >said/cargo'
+fails 'tests/more.rs: no test ran' 'touch second/tests/more.rs'
+
+# ---- the example
+passes tests/example.sh ''
+fails '' 'echo exit 3 >>said/example'
+fails '' 'echo "kill -SEGV \$\$" >>said/example'
+fails '> two jobs' 'echo exit 0 >said/example'
+fails '' ': >tests/c/example.stdout'
+fails 'U malloc' 'echo malloc U >>said/symbols'
+fails 'T more' 'echo more T 0 1 >>said/symbols'
+
+# ---- the comparison
+passes tests/compare.sh 'texts 321354, plans 27'
+fails 'named: compared 0 texts' 'echo texts 0 >said/named'
+fails 'small: compared 0 texts' ': >said/small'
+fails 'gen 1 200000: compared 199999 texts' 'echo texts 199999 >said/gen'
+fails 'fewer than 321354 texts were compared' 'sed -i s/121300/121299/ said/small'
+fails 'COUNT is 0' 'export COUNT=0'
+fails '' 'echo exit 1 >>said/frames'
+fails 'fewer than 321354 texts were compared' 'echo "#!/bin/sh" >tools/compare'
+
+# ---- the must-fail edits' facts
+passes tests/must-fail-at-a-fact.sh '3 edits'
+fails 'crates/text: no must-fail edit' 'rm crates/text/must-fail/one.edit'
+fails 'crates/text: no must-fail edit' 'rm -r crates/*/must-fail'
+fails 'text/must-fail/one.edit: no log' 'rm target/must-fail/text/one/.log'
+fails 'text/must-fail/one.edit: refused, but not at a fact' ': >target/must-fail/text/one/.log'
+fails 'text/must-fail/one.edit: refused, but not at a fact' 'echo "x: error: x has no \`Need-1\`" >target/must-fail/text/one/.log'
+
+# ---- the header
+# header SAYING CHANGE: a header with such a change.
+header() {
+    fails "$1" "sed -i '$2' include/clampfern.h"
+}
+passes tests/header.sh 'the longest answer has 2437 bytes'
+header the_result_has_8_bytes 's/^size_t clampfern/uint16_t clampfern/'
+header 'planner *const entry' 's/^size_t clampfern/int64_t clampfern/'
+header 'planner *const entry' 's/size_t text_len,/uint32_t text_len,/'
+header 'planner *const entry' 's/size_t out_len)/uint32_t out_len)/'
+header 'planner *const entry' 's/const uint8_t/uint8_t/'
+header has_the_size_that_is_proved 's/2437/2436/'
+header has_the_size_that_is_proved 's/2437/2438/'
+header 'planner clampfern_plan;' '/^extern "C"/d; /^}/d'
+header 'declares these functions: more' 's/^size_t clampfern/size_t more(void);\n&/'
+header 'declares these functions: ' '/^size_t clampfern/d'
+fails 'the sources have these entries' 'sed -i "s/^\(pub extern.*\) usize/\1 u32/" crates/clampfern/src/lib.rt'
+fails 'the sources give no ANSWER_MOST' 'sed -i "/const ANSWER_MOST/d" crates/text/src/*.rt'
+fails has_the_size_that_is_proved 'sed -i "s/const SLICES_MOST: usize = 94/const SLICES_MOST: usize = 95/" crates/model/src/lib.rt'
+
+[ "$bad" != 0 ] || echo "$tries tries"
+exit $bad
