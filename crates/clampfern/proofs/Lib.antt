@@ -1,3 +1,4 @@
+pub mod Bounds
 pub mod Determined
 pub mod Entry
 pub mod Lines

@@ -6,6 +6,7 @@ use native.Mathlib.Omega.{arith}
 use lib.ListN.{length, take}
 use lib.Seq.{take-append-seam, length-take-le}
 use Rattle.model.specs.Limits.{jobsMost, slicesMost}
+use Rattle.model.specs.Lists.{All}
 use Rattle.model.specs.Refusal.{Answer, given, refused, andThen, numberOf, placeOf}
 use Rattle.model.specs.declared.Board.{Board}
 use Rattle.model.specs.declared.Job.{Job}
@@ -19,7 +20,8 @@ use Rattle.planner.specs.Promise.{Filled}
 use Rattle.planner.specs.declared.Planned.{Planned}
 use Rattle.planner.specs.declared.Planned.the-variants.{Plan as Counted, Refused}
 use Rattle.planner.specs.declared.Tables.{Tables}
-use Rattle.clampfern.specs.Answer.{planned, linesFor, answerText, tablesBy, tablesText}
+use Rattle.clampfern.specs.Answer.{planned, linesFor, answerText, tablesBy, tablesText, InLine}
+use Rattle.clampfern.proofs.Bounds.{tables-in-line}
 
 never : {A : Type 0} → _≡_ {A = ℕ} 0 1 → A
 never z = absurd (omega arith)
@@ -42,15 +44,20 @@ module _ (t : Tables) where
   tables-lines : (board : Board) (n : ℕ) (js : List Job) (m k : ℕ) → Filled board n js m k t → tablesText t ≡ linesFor (planOf board n js m k)
   tables-lines board n js m k filled = lines (t .planned) (planOf board n js m k) _ _ (filled .says) (filled .shares) (filled .slices)
 
-  -- The tables of the n jobs that were read from a text.
-  pub tables-answer : (text : List ℕ) (board : Board) (n : ℕ) (jobs read : List Job) → length jobs ≡ jobsMost → n ≤ jobsMost → jobs ≡ read
-      → given (record { board = board; jobs = take n read }) ≡ inputOf text → Filled board n (take n jobs) jobsMost slicesMost t
-      → tablesText t ≡ answerText text
-  tables-answer text board n jobs read full few same says filled =
-      tables-lines board n (take n jobs) jobsMost slicesMost filled ∙
-      ap (λ (k : ℕ). linesFor (planOf board k (take n jobs) jobsMost slicesMost)) (sym (length-take-le n jobs (omega arith))) ∙
-      ap (λ (js : List Job). linesFor (planned (record { board = board; jobs = take n js }))) same ∙
-      ap (λ (x : Answer Input). linesFor (andThen x planned)) says
+  -- The tables of the first n of an array of jobs, as they are read from a text.
+  module _ (board : Board) (n : ℕ) (jobs : List Job) (full : length jobs ≡ jobsMost) (few : n ≤ jobsMost)
+      (filled : Filled board n (take n jobs) jobsMost slicesMost t) where
+    counted : Filled board (length (take n jobs)) (take n jobs) jobsMost slicesMost t
+    counted = rw (length-take-le n jobs (omega arith)) filled
+
+    pub tables-short : All InLine (t .shares)
+    tables-short = tables-in-line board (take n jobs) jobsMost slicesMost t counted
+
+    pub tables-answer : (text : List ℕ) (read : List Job) → jobs ≡ read → given (record { board = board; jobs = take n read }) ≡ inputOf text → tablesText t ≡ answerText text
+    tables-answer text read same says =
+        tables-lines board (length (take n jobs)) (take n jobs) jobsMost slicesMost counted ∙
+        ap (λ (js : List Job). linesFor (planned (record { board = board; jobs = take n js }))) same ∙
+        ap (λ (x : Answer Input). linesFor (andThen x planned)) says
 
 -- What was written, by another name for its lines.
 pub writes-as : {before after lines lines′ : List ℕ} {r : Written} → Writes before after lines r → lines ≡ lines′ → Writes before after lines′ r

@@ -3,16 +3,18 @@
 --   linesFor     the lines of a plan, or of its refusal
 --   answerText   the answer to a text: its plan's lines, or one line with the first refusal
 --   tablesText   the same from the code's tables
+--   InLine       a share whose ticks a line can hold
 --   Entered      the C entry: the count of the bytes written, and 0 where the lent text is too short
 -- Assumes nothing.
 use mathlib.Core.Bool.{cond}
 use mathlib.Core.List.{List}
 use mathlib.Core.Path.{_≡_}
-use Prim.Native.Nat.{ℕ}
+use Prim.Native.Nat.{ℕ, _≤_}
 use lib.Dec.{ltb}
 use lib.ListN.{length, take}
-use Rattle.model.specs.Limits.{jobsMost, slicesMost}
+use Rattle.model.specs.Limits.{windowMost, jobsMost, slicesMost}
 use Rattle.model.specs.Refusal.{Answer, given, refused, andThen}
+use Rattle.model.specs.declared.Share.{Share}
 use Rattle.text.specs.Input.{Input, inputOf}
 use Rattle.text.specs.Output.{planText, refusedText, refusalText, written}
 use Rattle.planner.specs.Plan.{Plan, planOf}
@@ -36,6 +38,10 @@ tablesBy (Refused r) t = refusalText r
 
 abbrev pub tablesText : Tables → List ℕ
 tablesText t = tablesBy (t .planned) t
+
+-- The longest window has 65,535 ticks, the most that two bytes say.
+abbrev pub InLine : Share → Type 0
+InLine s = (s .first .0 ≤ windowMost) × (s .second .0 ≤ windowMost)
 
 pub record Entered (asked before after : List ℕ) (r : ℕ) : Type 0 where
   pub count : r ≡ cond (ltb (length before) (length (answerText asked))) 0 (length (answerText asked))

@@ -1,15 +1,41 @@
 // The planner from text to text, and its C entry: the library that users link (include/clampfern.h).
-ghost use Rattle.text.specs.Output.{Writes};
-ghost use Rattle.clampfern.specs.Answer.{answerText, tablesText, Entered};
+ghost use mathlib.Core.Path.{_≡_};
+ghost use mathlib.Core.List.{map};
+ghost use Rattle.model.specs.Lists.{All};
+ghost use Rattle.text.specs.Output.{ofLine, Writes};
+ghost use Rattle.clampfern.specs.Answer.{InLine, answerText, tablesText, Entered};
 use model::JOBS_MOST;
 use model::SLICES_MOST;
+use model::Share;
 use planner::Planned;
 use planner::Tables;
 use text::Outcome;
+use text::ShareLine;
 use text::Written;
+
+// The ticks of all shares as their lines hold them: a window has no more ticks than two bytes can say.
+fn lines_of(shares: [Share; JOBS_MOST]) -> [ShareLine; JOBS_MOST]
+    requires { ⌜ All InLine shares ⌝ }
+    ensures { λ r. ⌜ map ofLine r ≡ shares ⌝ }
+{
+    let mut lines = [ShareLine {
+        first: 0,
+        second: 0,
+    }; JOBS_MOST];
+    let mut i: usize = 0;
+    while i < JOBS_MOST {
+        let share = shares[i];
+        let first = share.first.0 as u16;
+        let second = share.second.0 as u16;
+        lines[i] = ShareLine { first, second };
+        i += 1;
+    }
+    lines
+}
 
 // The lines of a plan by value, or of its refusal.
 fn write_tables(tables: Tables, out: &mut [u8]) -> Written
+    requires { ⌜ All InLine (tables .shares) ⌝ }
     ensures { λ r. ⌜ Writes (now (out .entry)) (now (out .exit)) (tablesText tables) r ⌝ }
 {
     let planned = tables.planned;
@@ -18,7 +44,7 @@ fn write_tables(tables: Tables, out: &mut [u8]) -> Written
         Planned::Plan(jobs, rows) => {
             let shares = tables.shares;
             let slices = tables.slices;
-            text::write_plan(shares, jobs, slices, rows, out)
+            text::write_plan(lines_of(shares), jobs, slices, rows, out)
         }
     }
 }

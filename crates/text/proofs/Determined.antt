@@ -3,7 +3,7 @@
 --   jobs_of ↦ jobs-of-once
 --   write_plan ↦ write-plan-once, write_refusal ↦ write-refusal-once, the answer with the lent text after the call
 -- Assumes nothing.
-use mathlib.Core.List.{List, _++_}
+use mathlib.Core.List.{List, _++_, map}
 use mathlib.Core.Path.{_≡_, refl, sym, ap, _∙_}
 use Prim.Native.Nat.{ℕ, _-_, _≤_}
 use lib.ListN.{length, take, drop, replicate}
@@ -11,14 +11,14 @@ use Rattle.model.specs.Limits.{jobsMost}
 use Rattle.model.specs.Refusal.{Answer}
 use Rattle.model.specs.declared.Job.{Job}
 use Rattle.model.specs.declared.Refusal.{Refusal}
-use Rattle.model.specs.declared.Share.{Share}
 use Rattle.model.specs.declared.Slice.{Slice}
 use Rattle.model.proofs.Determined.{Once, once, said-once, refusal-back, answerOf, rows-back}
 use Rattle.text.specs.Input.{Input, inputOf, saysOutcome, noJob, jobsRead, Reads}
-use Rattle.text.specs.Output.{planText, refusalText, saysWritten, Writes}
+use Rattle.text.specs.Output.{ofLine, planText, refusalText, saysWritten, Writes}
 use Rattle.text.specs.declared.Outcome.{Outcome}
 use Rattle.text.specs.declared.Outcome.the-variants.{Set, Refused}
 use Rattle.text.specs.declared.ReadSet.{ReadSet}
+use Rattle.text.specs.declared.ShareLine.{ShareLine}
 use Rattle.text.specs.declared.Written.{Written}
 use Rattle.text.specs.declared.Written.the-variants.{Bytes, Full}
 
@@ -60,9 +60,9 @@ writes-once before lines r s p q =
     let text : r .1 ≡ s .1 = cc in
     λ i. (answer i, text i)
 
-pub write-plan-once : (shares : List Share) (n : ℕ) (slices : List Slice) (k : ℕ) (before : List ℕ)
-    → Once (λ (r : Written × List ℕ). Writes before (r .1) (planText (take n shares) (take k slices)) (r .0))
-write-plan-once shares n slices k before = writes-once before (planText (take n shares) (take k slices))
+pub write-plan-once : (shares : List ShareLine) (n : ℕ) (slices : List Slice) (k : ℕ) (before : List ℕ)
+    → Once (λ (r : Written × List ℕ). Writes before (r .1) (planText (map ofLine (take n shares)) (take k slices)) (r .0))
+write-plan-once shares n slices k before = writes-once before (planText (map ofLine (take n shares)) (take k slices))
 
 pub write-refusal-once : (refusal : Refusal) (before : List ℕ) → Once (λ (r : Written × List ℕ). Writes before (r .1) (refusalText refusal) (r .0))
 write-refusal-once refusal before = writes-once before (refusalText refusal)

@@ -3,7 +3,8 @@
 --   nibbleOf     the value of a hexadecimal digit, small or capital
 --   bytesOf      the bytes of a line: some digits, an even number of them
 --   lineOf       the line that is written for a record: small letters, and a line feed
---   numberIn     the number that bytes spell, the high byte first; two, four: a number's bytes
+--   numberIn     the number that bytes spell, the high byte first
+--   two          the bytes of a number below 65,536
 -- Assumes nothing.
 use mathlib.Core.Bool.{Bool, cond, _&&_}
 use mathlib.Core.List.{List, [], _∷_, _++_}
@@ -69,6 +70,7 @@ unfoldable pub textOf : List (List ℕ) → List ℕ
 textOf [] = []
 textOf (r ∷ rs) = lineOf r ++ textOf rs
 
+-- A greater number would lose bits here, so none is ever passed: the writers take numbers of 16 bits.
 abbrev pub two : ℕ → List ℕ
 two x = x / 256 % 256 ∷ x % 256 ∷ []
 

@@ -31,6 +31,12 @@ pub struct ReadSet {
     pub jobs: [Job; JOBS_MOST],
 }
 
+// The ticks of a share as its line holds them, two bytes for each kind: what a line cannot hold cannot be passed to a writer.
+pub struct ShareLine {
+    pub first: u16,
+    pub second: u16,
+}
+
 // How many bytes of a lent text were written, or the refusal of a text that is too short.
 pub enum Written {
     Bytes(usize),

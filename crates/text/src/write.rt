@@ -1,11 +1,11 @@
 // The writers: the lines of a plan, or of a refusal, into a text that the caller lends.
 // The length of the lines is known before any is written, so a text that is too short stays as it was.
+use crate::ShareLine;
 use crate::Written;
 use model::JOBS_MOST;
 use model::Kind;
 use model::Refusal;
 use model::SLICES_MOST;
-use model::Share;
 use model::Slice;
 ghost use mathlib.Core.Path.{_≡_};
 ghost use mathlib.Core.List.{[], _∷_, map};
@@ -15,7 +15,7 @@ ghost use lib.Seq.{sets};
 ghost use Rattle.model.specs.Board.{on};
 ghost use Rattle.model.specs.Limits.{jobsMost, slicesMost};
 ghost use Rattle.text.specs.Hex.{glyphOf, digitsOf, lineOf, textOf};
-ghost use Rattle.text.specs.Output.{shareRecord, shareRecords, sliceRecord, planText, refusalText, Writes};
+ghost use Rattle.text.specs.Output.{ofLine, shareRecord, shareRecords, sliceRecord, planText, refusalText, Writes};
 
 // The bytes of a line for each record: two digits a byte, and a line feed.
 const COUNT_LINE: usize = 7;
@@ -28,13 +28,13 @@ const REFUSAL_LINE: usize = 7;
 
 // Writes a plan's lines: 10 with the counts, 11 for each of n jobs, 12 for each of k slices. Above the rows of a table, n and k count as all.
 pub fn write_plan(
-    shares: [Share; JOBS_MOST],
+    shares: [ShareLine; JOBS_MOST],
     n: usize,
     slices: [Slice; SLICES_MOST],
     k: usize,
     text: &mut [u8],
 ) -> Written
-    ensures { λ r. ⌜ Writes (now (text .entry)) (now (text .exit)) (planText (take n shares) (take k slices)) r ⌝ }
+    ensures { λ r. ⌜ Writes (now (text .entry)) (now (text .exit)) (planText (map ofLine (take n shares)) (take k slices)) r ⌝ }
 {
     let jobs = at_most(n, JOBS_MOST);
     let rows = at_most(k, SLICES_MOST);
@@ -65,9 +65,9 @@ pub fn write_refusal(refusal: Refusal, text: &mut [u8]) -> Written
 }
 
 // The lines of the first n shares. Here and below, `sets text at bytes` is the text with the bytes stored from the place `at` on.
-fn put_shares(shares: [Share; JOBS_MOST], n: usize, text: &mut [u8], at: usize)
+fn put_shares(shares: [ShareLine; JOBS_MOST], n: usize, text: &mut [u8], at: usize)
     requires { ⌜ (n ≤ jobsMost) × (at + 13 * n ≤ length (now text)) ⌝ }
-    ensures { λ _. ⌜ now (text .exit) ≡ sets (now (text .entry)) at (textOf (shareRecords 0 (take n shares))) ⌝ }
+    ensures { λ _. ⌜ now (text .exit) ≡ sets (now (text .entry)) at (textOf (shareRecords 0 (map ofLine (take n shares)))) ⌝ }
 {
     let mut i = 0;
     let mut to = at;
@@ -93,12 +93,12 @@ fn put_slices(slices: [Slice; SLICES_MOST], k: usize, text: &mut [u8], at: usize
 }
 
 // The line of a job's share.
-fn put_share(job: u8, share: Share, text: &mut [u8], at: usize)
+fn put_share(job: u8, share: ShareLine, text: &mut [u8], at: usize)
     requires { ⌜ at + 13 ≤ length (now text) ⌝ }
-    ensures { λ _. ⌜ now (text .exit) ≡ sets (now (text .entry)) at (lineOf (shareRecord job share)) ⌝ }
+    ensures { λ _. ⌜ now (text .exit) ≡ sets (now (text .entry)) at (lineOf (shareRecord job (ofLine share))) ⌝ }
 {
-    let first = share.first.0;
-    let second = share.second.0;
+    let first = share.first;
+    let second = share.second;
     put_line(
         &[
             0x11,
@@ -119,8 +119,8 @@ fn put_slice(slice: Slice, text: &mut [u8], at: usize)
     ensures { λ _. ⌜ now (text .exit) ≡ sets (now (text .entry)) at (lineOf (sliceRecord slice)) ⌝ }
 {
     let kind = slice.kind;
-    let start = slice.start as u32;
-    let length = slice.length as u32;
+    let start = slice.start;
+    let length = slice.length;
     put_line(
         &[
             0x12,
@@ -170,13 +170,13 @@ fn glyph(x: u8) -> u8
 }
 
 // The high byte of a number of ticks, and the low one.
-fn high(x: u32) -> u8
+fn high(x: u16) -> u8
     ensures { λ r. ⌜ r ≡ x / 256 % 256 ⌝ }
 {
-    (x / 256 % 256) as u8
+    (x / 256) as u8
 }
 
-fn low(x: u32) -> u8
+fn low(x: u16) -> u8
     ensures { λ r. ⌜ r ≡ x % 256 ⌝ }
 {
     (x % 256) as u8

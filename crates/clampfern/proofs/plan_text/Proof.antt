@@ -5,7 +5,7 @@ use Rattle.model.specs.Limits.{jobsMost}
 use Rattle.model.specs.Refusal.{Answer, andThen}
 use Rattle.text.specs.Input.{Input}
 use Rattle.clampfern.specs.Answer.{planned, linesFor}
-use Rattle.clampfern.proofs.Lines.{tables-answer, writes-as}
+use Rattle.clampfern.proofs.Lines.{tables-short, tables-answer, writes-as}
 use borrow.Author.Needs.{needs}
 use Rattle.clampfern.proofs.plan_text.Statement.{statement}
 use Rattle.clampfern.proofs.plan_text.Tie as tie
@@ -29,7 +29,12 @@ plan-by-value-requires : tie.Need-plan-by-value-requires
 plan-by-value-requires c κs = search needs
 
 write-tables-requires : tie.Need-write-tables-requires
-write-tables-requires c κs = search needs
+write-tables-requires c κs =
+    let j = c .before .before in
+    let d = j .before .before in
+    let few = rw (d .outcome2 .given .1) at (d .before .before .read .ensures .few) in
+    let full : length (j .jobs-of .result) ≡ jobsMost = search needs in
+    tables-short (c .before .plan-by-value .result) _ _ (j .jobs-of .result) full few (c .before .plan-by-value .ensures)
 
 same-length : tie.Need-same-length
 same-length c = search needs
@@ -51,7 +56,8 @@ returns-2 c =
     let few = rw (d .outcome2 .given .1) at (d .before .before .read .ensures .few) in
     let full : length (j .jobs-of .result) ≡ jobsMost = search needs in
     writes-as (c .before .before .write-tables .ensures)
-    (tables-answer (c .before .before .before .before .plan-by-value .result) _ _ _ (j .jobs-of .result) _ full few (j .jobs-of .ensures) says (c .before .before .before .before .plan-by-value .ensures))
+    (tables-answer (c .before .before .before .before .plan-by-value .result) _ _ (j .jobs-of .result) full few
+    (c .before .before .before .before .plan-by-value .ensures) _ _ (j .jobs-of .ensures) says)
 
 pub plan-text-spec : {M : Type 1} → statement M
 plan-text-spec =

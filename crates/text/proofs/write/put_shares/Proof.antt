@@ -1,23 +1,27 @@
 -- `text::write::put_shares` meets its contract. The invariant: the lines of the rows that are left, stored from here, make the text that all lines
 -- make. The measure is the rows that are left. Assumes nothing.
 use mathlib.Core.Path.{_≡_, refl, _∙_}
+use mathlib.Core.List.{map}
 use Prim.Native.Nat.{_+_, _-_, _*_, _≤_}
 use native.Mathlib.Omega.{arith}
 use borrow.Author.Needs.{needs}
 use lib.ListN.{length, take, drop, getD}
 use lib.Seq.{sets}
 use Rattle.model.proofs.Walk.{left-cons, left-none}
-use Rattle.model.specs.Split.{share}
 use Rattle.text.specs.Hex.{digitsOf, textOf}
-use Rattle.text.specs.Output.{shareRecord, shareRecords}
+use Rattle.text.specs.Output.{ofLine, shareRecord, shareRecords}
+use Rattle.text.specs.declared.ShareLine.{ShareLine}
 use Rattle.text.proofs.Stores.{text-more}
 use Rattle.text.proofs.write.put_shares.Statement.{statement}
 use Rattle.text.proofs.write.put_shares.Tie as tie
 
+abbrev noTicks : ShareLine
+noTicks = record { first = 0; second = 0 }
+
 abbrev Inv-loop : tie.InvT-loop
 Inv-loop n text₀ at shares i₀ to₀ text i to =
     (i ≤ n) × (to ≡ at + 13 * i) × (length text ≡ length text₀)
-    × (sets text to (textOf (shareRecords i (drop i (take n shares)))) ≡ sets text₀ at (textOf (shareRecords 0 (take n shares))))
+    × (sets text to (textOf (shareRecords i (map ofLine (drop i (take n shares))))) ≡ sets text₀ at (textOf (shareRecords 0 (map ofLine (take n shares)))))
 
 abbrev μ-loop : tie.MeasureT-loop
 μ-loop n text₀ at shares i₀ to₀ text i to = n - i
@@ -53,12 +57,13 @@ loop-again c =
     let l = at-loop .loop in
     let a = at-loop .before .before .args in
     let full : length (a .t1) ≡ 64 = search needs in
-    let left = left-cons (a .t1) (a .n) (omega arith) (l .i) (share 0 0) (omega arith) in (
+    let left = left-cons (a .t1) (a .n) (omega arith) (l .i) noTicks (omega arith) in (
       omega arith,
       omega arith,
       omega arith,
       rw (c .before .before .put-share .ensures)
-          (text-more (l .text) (l .to) (shareRecord (l .i) (getD (a .t1) (l .i) (share 0 0))) (shareRecords (l .i + 1) (drop (l .i + 1) (take (a .n) (a .t1)))) ∙ rw left at (l .inv .3)),
+          (text-more (l .text) (l .to) (shareRecord (l .i) (ofLine (getD (a .t1) (l .i) noTicks)))
+          (shareRecords (l .i + 1) (map ofLine (drop (l .i + 1) (take (a .n) (a .t1))))) ∙ rw left at (l .inv .3)),
     )
 
 same-length : tie.Need-same-length Inv-loop μ-loop

@@ -3,12 +3,6 @@ use borrow.Author.Needs.{needs}
 use Rattle.text.proofs.write.put_slice.Statement.{statement}
 use Rattle.text.proofs.write.put_slice.Tie as tie
 
-cast-start : tie.Need-cast-start
-cast-start c = search needs
-
-cast-length : tie.Need-cast-length
-cast-length c = search needs
-
 kind-byte-requires : tie.Need-kind-byte-requires
 kind-byte-requires c κs = search needs
 
@@ -40,8 +34,6 @@ pub put-slice-spec : {M : Type 1} → statement M
 put-slice-spec =
     tie.close
     (tie.spec
-    cast-start
-    cast-length
     kind-byte-requires
     high-requires
     low-requires

@@ -1,9 +1,11 @@
 -- `text::write::write_plan` meets its contract: the lines of the counts, of the shares and of the slices are the plan's text, and as long as
 -- was tested. Assumes nothing.
-use mathlib.Core.Path.{_≡_}
+use mathlib.Core.Path.{_≡_, _∙_}
+use mathlib.Core.List.{map}
 use native.Mathlib.Omega.{arith}
-use lib.ListN.{length, take, length-take}
+use lib.ListN.{length, take, length-take, length-map}
 use lib.Seq.{length-take-le}
+use Rattle.text.specs.Output.{ofLine}
 use Rattle.text.proofs.PlanText.{take-most, plan-length, plan-stored}
 use Rattle.text.proofs.Stores.{too-short, all-written}
 use borrow.Author.Needs.{needs}
@@ -35,9 +37,10 @@ returns : tie.Need-returns
 returns c =
     let a = c .before .before .before .before .args in
     let full = tables-full (c .before) in
-    let ss-long : length (take (a .n) (a .shares)) ≡ c .before .before .at-most .result = omega (arith, length-take (a .n) (a .shares)) in
+    let ss-long : length (map ofLine (take (a .n) (a .shares))) ≡ c .before .before .at-most .result =
+    length-map (take (a .n) (a .shares)) ofLine ∙ omega (arith, length-take (a .n) (a .shares)) in
     let rows-long : length (take (a .k) (a .slices)) ≡ c .before .at-most2 .result = omega (arith, length-take (a .k) (a .slices)) in
-    too-short _ _ _ (plan-length (take (a .n) (a .shares)) (take (a .k) (a .slices)) _ _ ss-long rows-long) (c .if1 .taken)
+    too-short _ _ _ (plan-length (map ofLine (take (a .n) (a .shares))) (take (a .k) (a .slices)) _ _ ss-long rows-long) (c .if1 .taken)
 
 cast-t15 : tie.Need-cast-t15
 cast-t15 c = search needs
@@ -72,13 +75,13 @@ returns-2 c =
     let j = jobs-most .at-most .result in
     let r = rows-most .at-most2 .result in
     let full = tables-full rows-most in
-    let ss-long : length (take j (a .shares)) ≡ j = length-take-le j (a .shares) (omega arith) in
+    let ss-long : length (map ofLine (take j (a .shares))) ≡ j = length-map (take j (a .shares)) ofLine ∙ length-take-le j (a .shares) (omega arith) in
     let rows-long : length (take r (a .slices)) ≡ r = length-take-le r (a .slices) (omega arith) in
     let ss-all : take j (a .shares) ≡ take (a .n) (a .shares) = rw (jobs-most .at-most .ensures) (take-most (a .shares) (a .n) 64 (full .0)) in
     let rows-all : take r (a .slices) ≡ take (a .k) (a .slices) = rw (rows-most .at-most2 .ensures) (take-most (a .slices) (a .k) 94 (full .1)) in
     rw (← ss-all, ← rows-all)
-    (rw (rows-put .put-slices .ensures, shares-put .put-shares .ensures, counts-put .put-line .ensures, plan-stored (take j (a .shares)) (take r (a .slices)) j r ss-long rows-long)
-    (all-written _ _ _ (plan-length (take j (a .shares)) (take r (a .slices)) j r ss-long rows-long) (tested .if1 .left)))
+    (rw (rows-put .put-slices .ensures, shares-put .put-shares .ensures, counts-put .put-line .ensures, plan-stored (map ofLine (take j (a .shares))) (take r (a .slices)) j r ss-long rows-long)
+    (all-written _ _ _ (plan-length (map ofLine (take j (a .shares))) (take r (a .slices)) j r ss-long rows-long) (tested .if1 .left)))
 
 pub write-plan-spec : {M : Type 1} → statement M
 write-plan-spec =

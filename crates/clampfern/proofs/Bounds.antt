@@ -1,0 +1,72 @@
+-- What is known of an accepted plan, in numbers: every count, share and slice of it is within the bytes that it is written in. Assumes nothing.
+--   small           the bounds of an accepted plan
+--   tables-in-line  the shares of the code's tables are within a line, also in the rows that the plan does not have
+use mathlib.Core.Path.{_≡_, refl}
+use mathlib.Core.List.{List}
+use Prim.Native.Nat.{ℕ, zero, suc, _+_, _-_, _≤_, _<_}
+use native.Mathlib.Omega.{arith}
+use lib.ListN.{length, replicate}
+use Rattle.model.specs.Board.{coresOf}
+use Rattle.model.specs.Limits.{windowMost, coresMost, jobsMost, slicesMost}
+use Rattle.model.specs.Lists.{All}
+use Rattle.model.specs.Refusal.{Answer, given, refused}
+use Rattle.model.specs.Split.{share}
+use Rattle.model.specs.Timetable.{Inside}
+use Rattle.model.specs.declared.Kind.{Kind}
+use Rattle.model.specs.declared.Kind.the-variants.{First, Second}
+use Rattle.model.specs.declared.Board.{Board}
+use Rattle.model.specs.declared.Job.{Job}
+use Rattle.model.specs.declared.Share.{Share}
+use Rattle.model.specs.declared.Slice.{Slice}
+use Rattle.model.proofs.Lists.{all-map, all-append}
+use Rattle.legal.specs.Lawful.{Lawful}
+use Rattle.planner.specs.Plan.{Plan, planOf, sharesIn}
+use Rattle.planner.specs.Promise.{Filled}
+use Rattle.planner.specs.declared.Tables.{Tables}
+use Rattle.planner.proofs.Plans.{do-length, plan-shares, plan-kept, shares-lawful, shares-accepted, accepted-fits}
+use Rattle.clampfern.specs.Answer.{InLine}
+
+pub record Small (p : Plan) : Type 0 where
+  pub few-jobs : length (p .shares) ≤ jobsMost
+  pub few-slices : length (p .slices) ≤ slicesMost
+  pub each-share : All (λ (s : Share). s .first .0 + s .second .0 ≤ windowMost) (p .shares)
+  pub each-slice : All (λ (s : Slice). (s .job < 64) × (s .core < 8) × (s .start + s .length ≤ windowMost)) (p .slices)
+
+module _ (board : Board) (js : List Job) (m k : ℕ) {p : Plan} (is : planOf board (length js) js m k ≡ given p) where
+  pub small : Small p
+  small =
+      let made = plan-shares board (length js) js m k is in
+      let law = shares-lawful board (length js) js (made .0) in
+      let kept = plan-kept board (length js) js m k is in
+      let fits = accepted-fits board (length js) js (p .shares) law (shares-accepted board (length js) js (made .0)) in
+      let size = do-length (board .window) js (p .shares) (kept .whole .does) in
+      record {
+        few-jobs = omega (arith, law .few);
+        few-slices = omega (arith, kept .few, law .few, law .first-most, law .second-most);
+        each-share = all-map (λ (s : Share). s .first .0 + s .second .0 ≤ board .window) _ (λ s h. omega (arith, law .window-most)) (p .shares) (fits .each);
+        each-slice = all-map (Inside board (length (p .shares))) _ (λ s h. inside law size s h) (p .slices) (kept .timetable .inside);
+      }
+    where
+      few-cores : Lawful board (length js) js → (kind : Kind) → coresOf board kind ≤ coresMost
+      few-cores law First = law .first-most
+      few-cores law Second = law .second-most
+
+      inside : Lawful board (length js) js → length (p .shares) ≡ length js → (s : Slice) → Inside board (length (p .shares)) s
+          → (s .job < 64) × (s .core < 8) × (s .start + s .length ≤ windowMost)
+      inside law size s h =
+          (omega (arith, h .job, law .few), omega (arith, h .core, few-cores law (s .kind)), omega (arith, h .ends, law .window-most))
+
+none-in-line : (n : ℕ) → All InLine (replicate n (share 0 0))
+none-in-line zero = tt
+none-in-line (suc n) = ((omega arith, omega arith), none-in-line n)
+
+pub tables-in-line : (board : Board) (js : List Job) (m k : ℕ) (t : Tables) → Filled board (length js) js m k t → All InLine (t .shares)
+tables-in-line board js m k t filled =
+    rw (filled .shares)
+    (all-append InLine (sharesIn (planOf board (length js) js m k)) (replicate (jobsMost - t .shared) (share 0 0))
+    (planned-in-line (planOf board (length js) js m k) refl) (none-in-line (jobsMost - t .shared)))
+  where
+    planned-in-line : (x : Answer Plan) → planOf board (length js) js m k ≡ x → All InLine (sharesIn x)
+    planned-in-line (given p) is =
+        all-map (λ (s : Share). s .first .0 + s .second .0 ≤ windowMost) InLine (λ s h. (omega arith, omega arith)) (p .shares) (small board js m k is .each-share)
+    planned-in-line (refused number place) is = tt
