@@ -1,11 +1,12 @@
 -- The count that the C entry gives, from what was written. Assumes nothing.
 use mathlib.Core.Path.{_≡_, sym, _∙_}
 use mathlib.Core.Bool.{Bool, true, false, cond}
-use mathlib.Core.List.{List}
-use Prim.Native.Nat.{ℕ}
+use mathlib.Core.List.{List, _++_}
+use Prim.Native.Nat.{ℕ, _≤_}
 use native.Mathlib.Omega.{arith}
+use borrow.Author.Tests.{le-ltb}
 use lib.Dec.{ltb}
-use lib.ListN.{length}
+use lib.ListN.{length, drop}
 use Rattle.model.specs.Refusal.{given, refused}
 use Rattle.text.specs.Output.{saysWritten, Writes}
 use Rattle.text.specs.declared.Written.{Written}
@@ -28,3 +29,10 @@ entered {asked} {before} r e w =
       count = sym e ∙ bytes-are r (ltb (length before) (length (answerText asked))) (length (answerText asked)) (w .says);
       text = w .text;
     }
+
+-- What the C entry writes where the answer fits.
+pub entered-whole : {text before after : List ℕ} {size : ℕ} → Entered text before after size → length (answerText text) ≤ length before
+    → (size ≡ length (answerText text)) × (after ≡ answerText text ++ drop (length (answerText text)) before)
+entered-whole {text} {before} e fits =
+    let tested : ltb (length before) (length (answerText text)) ≡ false = le-ltb _ _ fits in
+    (rw tested at (e .count), rw tested at (e .text))

@@ -3,3 +3,4 @@ pub mod Determined
 pub mod Entry
 pub mod Lines
 pub mod ReadBack
+pub mod Size

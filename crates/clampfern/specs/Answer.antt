@@ -5,22 +5,24 @@
 --   tablesText   the same from the code's tables
 --   InLine       a share whose ticks a line can hold
 --   Entered      the C entry: the count of the bytes written, and 0 where the lent text is too short
+--   Answered     the answer by value: the count, the lines, and zeros behind them
 -- Assumes nothing.
 use mathlib.Core.Bool.{cond}
-use mathlib.Core.List.{List}
+use mathlib.Core.List.{List, _++_}
 use mathlib.Core.Path.{_≡_}
-use Prim.Native.Nat.{ℕ, _≤_}
+use Prim.Native.Nat.{ℕ, _-_, _≤_}
 use lib.Dec.{ltb}
-use lib.ListN.{length, take}
+use lib.ListN.{length, take, replicate}
 use Rattle.model.specs.Limits.{windowMost, jobsMost, slicesMost}
 use Rattle.model.specs.Refusal.{Answer, given, refused, andThen}
 use Rattle.model.specs.declared.Share.{Share}
 use Rattle.text.specs.Input.{Input, inputOf}
-use Rattle.text.specs.Output.{planText, refusedText, refusalText, written}
+use Rattle.text.specs.Output.{planText, refusedText, refusalText, written, answerMost}
 use Rattle.planner.specs.Plan.{Plan, planOf}
 use Rattle.planner.specs.declared.Planned.{Planned}
 use Rattle.planner.specs.declared.Planned.the-variants.{Plan as Counted, Refused}
 use Rattle.planner.specs.declared.Tables.{Tables}
+use Rattle.clampfern.specs.declared.AnswerLines.{AnswerLines}
 
 abbrev pub planned : Input → Answer Plan
 planned input = planOf (input .board) (length (input .jobs)) (input .jobs) jobsMost slicesMost
@@ -46,3 +48,8 @@ InLine s = (s .first .0 ≤ windowMost) × (s .second .0 ≤ windowMost)
 pub record Entered (asked before after : List ℕ) (r : ℕ) : Type 0 where
   pub count : r ≡ cond (ltb (length before) (length (answerText asked))) 0 (length (answerText asked))
   pub text : after ≡ written before (answerText asked)
+
+-- An answer has at most answerMost bytes (proofs/Size.antt), so the minus never stops at 0.
+pub record Answered (text : List ℕ) (r : AnswerLines) : Type 0 where
+  pub size : r .size ≡ length (answerText text)
+  pub bytes : r .bytes ≡ answerText text ++ replicate (answerMost - length (answerText text)) 0

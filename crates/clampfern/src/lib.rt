@@ -3,15 +3,22 @@ ghost use mathlib.Core.Path.{_≡_};
 ghost use mathlib.Core.List.{map};
 ghost use Rattle.model.specs.Lists.{All};
 ghost use Rattle.text.specs.Output.{ofLine, Writes};
-ghost use Rattle.clampfern.specs.Answer.{InLine, answerText, tablesText, Entered};
+ghost use Rattle.clampfern.specs.Answer.{InLine, answerText, tablesText, Entered, Answered};
 use model::JOBS_MOST;
 use model::SLICES_MOST;
 use model::Share;
 use planner::Planned;
 use planner::Tables;
+use text::ANSWER_MOST;
 use text::Outcome;
 use text::ShareLine;
 use text::Written;
+
+// The answer to a text by value: its lines, and how many bytes they have. All other bytes are zero.
+pub struct AnswerLines {
+    pub bytes: [u8; ANSWER_MOST],
+    pub size: usize,
+}
 
 // The ticks of all shares as their lines hold them: a window has no more ticks than two bytes can say.
 fn lines_of(shares: [Share; JOBS_MOST]) -> [ShareLine; JOBS_MOST]
@@ -76,4 +83,13 @@ pub extern "C" fn clampfern_plan(text: &[u8], out: &mut [u8]) -> usize
         Written::Bytes(count) => count,
         Written::Full(_) => 0,
     }
+}
+
+// The same by value, for a caller that lends nothing: an answer always fits, so there is no case of a text that is too short.
+pub fn answer(text: &[u8]) -> AnswerLines
+    ensures { λ r. ⌜ Answered (now (text .entry)) r ⌝ }
+{
+    let mut bytes = [0u8; ANSWER_MOST];
+    let size = clampfern_plan(text, &mut bytes);
+    AnswerLines { bytes, size }
 }

@@ -18,13 +18,13 @@ use Rattle.split.specs.Steps.{better, nextFrom, movedOf, stepOf, stepsOf}
 use Rattle.slices.specs.Table.{chosen, piecesOf, cutOf, packed, tableOf}
 use Rattle.planner.specs.Plan.{planOf, sharesIn, slicesIn}
 
-abbrev board : Board
+abbrev pub board : Board
 board = record { window = 1000; first = 8; second = 8 }
 
 abbrev both : ℕ → ℕ → Job
 both a b = Both (record { 0 = a }) (record { 0 = b })
 
-abbrev jobs : List Job
+abbrev pub jobs : List Job
 jobs =
     replicate 15 (both 800 1338)
     ++ both 400 900 ∷ (replicate 24 (OnlyFirst (record { 0 = 10 })) ++ replicate 24 (OnlySecond (record { 0 = 5 })))

@@ -6,14 +6,16 @@
 --   written          a lent text with bytes at its front
 --   saysWritten      what the code's answer says: the count of the bytes written, or refusal 7
 --   Writes           what a writer promises: its answer, and every byte of the lent text
+--   answerMost       the most bytes that an answer has
 -- Assumes nothing.
 use mathlib.Core.Bool.{cond}
 use mathlib.Core.List.{List, [], _∷_, _++_, map}
 use mathlib.Core.Path.{_≡_}
-use Prim.Native.Nat.{ℕ, _+_}
+use Prim.Native.Nat.{ℕ, _+_, _*_}
 use lib.Dec.{ltb}
 use lib.ListN.{length, drop}
 use Rattle.model.specs.Board.{on}
+use Rattle.model.specs.Limits.{jobsMost, slicesMost}
 use Rattle.model.specs.Refusal.{Answer, given, refused, saysRefusal, numberOf, placeOf}
 use Rattle.model.specs.Split.{share}
 use Rattle.model.specs.declared.Refusal.{Refusal}
@@ -71,3 +73,7 @@ saysWritten (Full r) = saysRefusal r
 pub record Writes (before after lines : List ℕ) (r : Written) : Type 0 where
   pub says : saysWritten r ≡ writes before lines
   pub text : after ≡ written before lines
+
+-- The counts' line, a line for each job and a line for each slice, where there are as many as can be.
+abbrev pub answerMost : ℕ
+answerMost = 7 + 13 * jobsMost + 17 * slicesMost

@@ -10,6 +10,7 @@ use model::Job;
 use model::Refusal;
 pub use reader::jobs_of;
 pub use reader::read;
+pub use write::ANSWER_MOST;
 pub use write::write_plan;
 pub use write::write_refusal;
 

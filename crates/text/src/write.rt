@@ -26,6 +26,9 @@ const SLICE_LINE: usize = 17;
 
 const REFUSAL_LINE: usize = 7;
 
+// The most bytes that an answer has: the lines of a plan of all jobs and all slices. clampfern's theorem `answer-size` says that it is enough.
+pub const ANSWER_MOST: usize = COUNT_LINE + SHARE_LINE * JOBS_MOST + SLICE_LINE * SLICES_MOST;
+
 // Writes a plan's lines: 10 with the counts, 11 for each of n jobs, 12 for each of k slices. Above the rows of a table, n and k count as all.
 pub fn write_plan(
     shares: [ShareLine; JOBS_MOST],

@@ -1,0 +1,67 @@
+-- The size of an answer: the line of a refusal at least, and at most the lines of a plan of as many jobs and slices as there can be. Assumes nothing.
+--   answer-size     every answer has 7 to answerMost bytes
+--   least-answered, most-answered   and both are reached: by the empty text, and by the set of 94 slices
+--   answer-most     as a number
+use mathlib.Core.Path.{_≡_, refl}
+use mathlib.Core.List.{List, [], _∷_, _++_}
+use Prim.Native.Nat.{ℕ, _≤_}
+use native.Mathlib.Omega.{arith}
+use lib.ListN.{length, replicate}
+use Rattle.model.specs.Limits.{jobsMost, slicesMost}
+use Rattle.model.specs.Refusal.{Answer, given, refused, andThen}
+use Rattle.text.specs.Hex.{linesOf, nibbleOf, pairsOf, bytesOf, digitsOf, textOf, numberFrom}
+use Rattle.text.specs.Input.{Input, jobIn, entryOf, jobsFrom, inputFrom, inputOf}
+use Rattle.text.specs.Output.{answerMost}
+use Rattle.text.proofs.PlanText.{plan-length}
+use Rattle.planner.specs.Most.{board, jobs, most-slices}
+use Rattle.planner.specs.Plan.{Plan, planOf, slicesIn}
+use Rattle.planner.proofs.Plans.{do-length, plan-kept}
+use Rattle.clampfern.specs.Answer.{planned, linesFor, answerText}
+use Rattle.clampfern.proofs.Bounds.{small}
+
+abbrev Sized : List ℕ → Type 0
+Sized lines = (7 ≤ length lines) × (length lines ≤ answerMost)
+
+refused-size : (number place : ℕ) → Sized (linesFor (refused number place))
+unfolding digitsOf textOf
+refused-size number place = (omega arith, omega arith)
+
+plan-size : (input : Input) (x : Answer Plan) → planned input ≡ x → Sized (linesFor x)
+plan-size input (given p) is =
+    let within = small (input .board) (input .jobs) jobsMost slicesMost is in
+    let size = plan-length (p .shares) (p .slices) _ _ refl refl in
+    (omega (arith, size), omega (arith, size, within .few-jobs, within .few-slices))
+plan-size input (refused number place) is = refused-size number place
+
+pub answer-size : (text : List ℕ) → (7 ≤ length (answerText text)) × (length (answerText text) ≤ answerMost)
+answer-size text = go (inputOf text) where
+  go : (x : Answer Input) → Sized (linesFor (andThen x planned))
+  go (given input) = plan-size input (planned input) refl
+  go (refused number place) = refused-size number place
+
+-- The set of planner/specs/Most.antt as a text: 0103e80808, then its jobs.
+abbrev asked : List ℕ
+asked =
+    textOf
+    ((1 ∷ 3 ∷ 232 ∷ 8 ∷ 8 ∷ [])
+    ∷ (replicate 15 (2 ∷ 0 ∷ 0 ∷ 0 ∷ 3 ∷ 32 ∷ 0 ∷ 0 ∷ 5 ∷ 58 ∷ []) ++ (2 ∷ 0 ∷ 0 ∷ 0 ∷ 1 ∷ 144 ∷ 0 ∷ 0 ∷ 3 ∷ 132 ∷ [])
+    ∷ (replicate 24 (2 ∷ 1 ∷ 0 ∷ 0 ∷ 0 ∷ 10 ∷ 0 ∷ 0 ∷ 0 ∷ 0 ∷ []) ++ replicate 24 (2 ∷ 2 ∷ 0 ∷ 0 ∷ 0 ∷ 0 ∷ 0 ∷ 0 ∷ 0 ∷ 5 ∷ []))))
+
+asked-read : inputOf asked ≡ given (record { board = board; jobs = jobs })
+unfolding linesOf nibbleOf pairsOf bytesOf digitsOf textOf numberFrom jobIn entryOf jobsFrom inputFrom inputOf
+asked-read = refl
+
+pub most-answered : length (answerText asked) ≡ answerMost
+most-answered = rw asked-read (go (planOf board jobsMost jobs jobsMost slicesMost) refl most-slices) where
+  go : (x : Answer Plan) → planOf board jobsMost jobs jobsMost slicesMost ≡ x → length (slicesIn x) ≡ slicesMost → length (linesFor x) ≡ answerMost
+  go (given p) is most =
+      plan-length (p .shares) (p .slices) jobsMost slicesMost (do-length (board .window) jobs (p .shares) (plan-kept board jobsMost jobs jobsMost slicesMost is .whole .does)) most
+  go (refused number place) is most = absurd (omega arith)
+
+pub least-answered : length (answerText []) ≡ 7
+unfolding linesOf digitsOf textOf inputFrom inputOf
+least-answered = refl
+
+-- As a number, for those who cannot cite it: include/clampfern.h.
+pub answer-most : answerMost ≡ 2437
+answer-most = refl
