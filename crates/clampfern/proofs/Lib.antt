@@ -3,4 +3,5 @@ pub mod Determined
 pub mod Entry
 pub mod Lines
 pub mod ReadBack
+pub mod Says
 pub mod Size
