@@ -80,10 +80,18 @@ module _ (board : Board) (js : List Job) (m k : ℕ) {p : Plan} (is : planOf boa
       let rs : List (List ℕ) = shareRecords 0 ss ++ map sliceRecord rows in
       let size : length rs ≡ length ss + length rows = simp (length-append, shares-length, length-map) in
       said-records (planText ss rows) (planRecords ss rows) (plan-back board js m k is) ∙
-      rw (one-back 16, one-back (length ss), one-back (length rows), eq-eqb (length rs) (length ss + length rows) size,
-          take-at (shareRecords 0 ss) (map sliceRecord rows) (length ss) (shares-length 0 ss),
-          drop-at (shareRecords 0 ss) (map sliceRecord rows) (length ss) (shares-length 0 ss),
-          shares-said 0 ss (numbers .0), slices-said rows (numbers .1), all-read ss, all-read rows)
+      rw (
+        one-back 16,
+        one-back (length ss),
+        one-back (length rows),
+        eq-eqb (length rs) (length ss + length rows) size,
+        take-at (shareRecords 0 ss) (map sliceRecord rows) (length ss) (shares-length 0 ss),
+        drop-at (shareRecords 0 ss) (map sliceRecord rows) (length ss) (shares-length 0 ss),
+        shares-said 0 ss (numbers .0),
+        slices-said rows (numbers .1),
+        all-read ss,
+        all-read rows,
+      )
 
 pub refusal-said : (number place : ℕ) → number < 256 → place < 256 → saidOf (refusedText number place) ≡ some (refused number place)
 unfolding recordsSay

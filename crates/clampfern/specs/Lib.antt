@@ -1,3 +1,4 @@
 pub mod Answer
 pub mod Said
+pub mod Listed
 pub mod Example

@@ -1,0 +1,41 @@
+-- The refusals of a text, each with its cause: document 01's "Refusals by number".
+--   lineAt       line i of a text, from 1
+--   Good         a line as an input has it there: a board first, then jobs
+--   Reached      a line that is read: the text is short enough, and every line before it is good
+--   TextListed   the number and the place of a refusal, and why it is given
+-- Assumes nothing.
+use mathlib.Core.List.{List, []}
+use mathlib.Core.Path.{_≡_}
+use Prim.Native.Nat.{ℕ, _+_, _-_, _≤_, _<_}
+use lib.ListN.{length, getD}
+use Rattle.model.specs.Limits.{jobsMost, textMost}
+use Rattle.model.specs.Refusal.{given}
+use Rattle.model.specs.declared.Board.{Board}
+use Rattle.model.specs.declared.Job.{Job}
+use Rattle.text.specs.Hex.{none, some, linesOf, bytesOf}
+use Rattle.text.specs.Input.{entryOf, lineSays}
+use Rattle.text.specs.declared.Entry.the-variants.{OfBoard, OfJob}
+
+abbrev pub lineAt : List ℕ → ℕ → List ℕ
+lineAt text i = getD (linesOf text) (i - 1) []
+
+pub data Good (text : List ℕ) : ℕ → Type 0 where
+  board : (b : Board) → lineSays 1 (lineAt text 1) ≡ given (OfBoard b) → Good text 1
+  job : (i : ℕ) (j : Job) → 2 ≤ i → lineSays i (lineAt text i) ≡ given (OfJob j) → Good text i
+
+-- A board and 64 jobs take 65 lines, so no line past 66 is read.
+pub record Reached (text : List ℕ) (i : ℕ) : Type 0 where
+  pub short : length text ≤ textMost
+  pub some : 1 ≤ i
+  pub most : i ≤ jobsMost + 2
+  pub there : i ≤ length (linesOf text)
+  pub before : (k : ℕ) → k < i → 1 ≤ k → Good text k
+
+pub data TextListed (text : List ℕ) : (number place : ℕ) → Type 0 where
+  over : textMost < length text → TextListed text 8 0
+  digits : (i : ℕ) → Reached text i → bytesOf (lineAt text i) ≡ none → TextListed text 8 i
+  unknown : (i : ℕ) (r : List ℕ) → Reached text i → bytesOf (lineAt text i) ≡ some r → entryOf r ≡ none → TextListed text 9 i
+  job-first : (j : Job) → Reached text 1 → lineSays 1 (lineAt text 1) ≡ given (OfJob j) → TextListed text 10 1
+  board-later : (i : ℕ) (b : Board) → Reached text i → 2 ≤ i → lineSays i (lineAt text i) ≡ given (OfBoard b) → TextListed text 10 i
+  empty : text ≡ [] → TextListed text 10 1
+  many : (j : Job) → Reached text 66 → lineSays 66 (lineAt text 66) ≡ given (OfJob j) → TextListed text 3 jobsMost
