@@ -1,4 +1,6 @@
+pub mod Answers
 pub mod Bounds
+pub mod Demands
 pub mod Determined
 pub mod Entry
 pub mod Lines

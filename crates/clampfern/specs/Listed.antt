@@ -1,4 +1,5 @@
--- The refusals of a text, each with its cause: document 01's "Refusals by number".
+-- The refusals of a text, each by its number, with its place and its cause: document 01's "Refusals by number", in the order in which a text is
+-- read and its set is planned.
 --   lineAt       line i of a text, from 1
 --   Good         a line as an input has it there: a board first, then jobs
 --   Reached      a line that is read: the text is short enough, and every line before it is good
@@ -8,13 +9,14 @@ use mathlib.Core.List.{List, []}
 use mathlib.Core.Path.{_≡_}
 use Prim.Native.Nat.{ℕ, _+_, _-_, _≤_, _<_}
 use lib.ListN.{length, getD}
-use Rattle.model.specs.Limits.{jobsMost, textMost}
+use Rattle.model.specs.Limits.{jobsMost, slicesMost, textMost}
 use Rattle.model.specs.Refusal.{given}
 use Rattle.model.specs.declared.Board.{Board}
 use Rattle.model.specs.declared.Job.{Job}
 use Rattle.text.specs.Hex.{none, some, linesOf, bytesOf}
-use Rattle.text.specs.Input.{entryOf, lineSays}
+use Rattle.text.specs.Input.{Input, entryOf, lineSays, inputOf}
 use Rattle.text.specs.declared.Entry.the-variants.{OfBoard, OfJob}
+use Rattle.planner.specs.Listed.{Listed}
 
 abbrev pub lineAt : List ℕ → ℕ → List ℕ
 lineAt text i = getD (linesOf text) (i - 1) []
@@ -39,3 +41,6 @@ pub data TextListed (text : List ℕ) : (number place : ℕ) → Type 0 where
   board-later : (i : ℕ) (b : Board) → Reached text i → 2 ≤ i → lineSays i (lineAt text i) ≡ given (OfBoard b) → TextListed text 10 i
   empty : text ≡ [] → TextListed text 10 1
   many : (j : Job) → Reached text 66 → lineSays 66 (lineAt text 66) ≡ given (OfJob j) → TextListed text 3 jobsMost
+  -- A text that describes a set has the refusals of the set, and never 7: the tables inside are long enough for every set.
+  of-set : {number place : ℕ} (input : Input) → inputOf text ≡ given input → number ≤ 6
+      → Listed (input .board) (input .jobs) jobsMost slicesMost number place → TextListed text number place

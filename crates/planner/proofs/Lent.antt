@@ -103,7 +103,7 @@ module _ (board : Board) (n : ℕ) (js : List Job) (m k : ℕ) where
   abbrev made : List Share → Answer Plan
   made ss = fitted m k (record { shares = ss; slices = tableOf (board .window) ss })
 
-  plan-room : countsIn (planOf board n js m k) ≡ refused 6 0 → sharesOf board n js ≡ refused 6 0
+  pub plan-room : countsIn (planOf board n js m k) ≡ refused 6 0 → sharesOf board n js ≡ refused 6 0
   plan-room e = go (sharesOf board n js) refl e
     where
       fits : (ss : List Share) (t : Bool)

@@ -1,0 +1,98 @@
+-- What the answer to a text says, for every text: its plan, or its refusal, which is listed. Assumes nothing.
+--   answerOf        the plan of the set that a text describes, or the first refusal
+--   answer-said     the bytes of the answer say it
+--   answer-some     and there are some
+--   answer-listed   each refusal is listed, with its cause, and its number and place are small
+--   entry-cases     the C entry either leaves bytes that are too few as they were, or puts the answer in front
+use mathlib.Core.Path.{_≡_, refl}
+use mathlib.Core.Bool.{Bool, true, false, cond}
+use mathlib.Core.List.{List, [], _∷_, _++_}
+use mathlib.Core.Logic.{_⊎_, inl, inr}
+use Prim.Native.Nat.{ℕ, _≤_, _<_}
+use native.Mathlib.Omega.{arith}
+use borrow.Author.Tests.{ltb-true, ltb-false}
+use lib.Dec.{ltb}
+use lib.ListN.{length, drop}
+use Rattle.model.specs.Limits.{jobsMost, slicesMost}
+use Rattle.model.specs.Refusal.{Answer, given, refused, andThen}
+use Rattle.text.specs.Hex.{Maybe, none, some, linesOf}
+use Rattle.text.specs.Input.{Input, inputOf}
+use Rattle.planner.specs.Plan.{Plan}
+use Rattle.planner.proofs.Causes.{plan-listed}
+use Rattle.planner.proofs.Demands.{listed-small}
+use Rattle.planner.proofs.Moving.{plan-roomy}
+use Rattle.clampfern.specs.Answer.{planned, linesFor, answerText, Entered}
+use Rattle.clampfern.specs.Listed.{Reached, TextListed, over, digits, unknown, job-first, board-later, empty, many, of-set}
+use Rattle.clampfern.specs.Said.{allRead, recordsSay, saidOf}
+use Rattle.clampfern.proofs.Refusals.{text-listed, set-few}
+use Rattle.clampfern.proofs.Says.{plan-said, refusal-said}
+
+pub text-listed-small : {text : List ℕ} {number place : ℕ} → TextListed text number place → (1 ≤ number) × (number ≤ 10) × (place ≤ 66)
+text-listed-small (over cause) = omega arith
+text-listed-small (digits i at cause) = omega (arith, at .most)
+text-listed-small (unknown i r at is cause) = omega (arith, at .most)
+text-listed-small (job-first j at cause) = omega arith
+text-listed-small (board-later i b at later cause) = omega (arith, at .most)
+text-listed-small (empty cause) = omega arith
+text-listed-small (many j at cause) = omega arith
+text-listed-small (of-set input is few listed) = omega (arith, listed-small listed)
+
+module _ (text : List ℕ) where
+  abbrev pub answerOf : Answer Plan
+  answerOf = andThen (inputOf text) planned
+
+  pub answer-listed : (number place : ℕ) → answerOf ≡ refused number place → TextListed text number place
+  answer-listed number place is = go (inputOf text) refl is
+    where
+      go : (x : Answer Input) → inputOf text ≡ x → andThen x planned ≡ refused number place → TextListed text number place
+      go (given input) set e =
+          of-set input set (plan-roomy (input .board) (length (input .jobs)) (input .jobs) (set-few text input set) number place e)
+          (plan-listed (input .board) (input .jobs) jobsMost slicesMost number place e)
+      go (refused m q) none-read e =
+          let a : m ≡ number = cc in
+          let b : q ≡ place = cc in
+          rw (a, b) at (text-listed text m q none-read)
+
+  pub answer-said : saidOf (answerText text) ≡ some answerOf
+  answer-said = read (inputOf text) refl
+    where
+      refusal : (number place : ℕ) → answerOf ≡ refused number place → saidOf (linesFor (refused number place)) ≡ some (refused number place)
+      refusal number place is =
+          let small = text-listed-small (answer-listed number place is) in
+          refusal-said number place (omega arith) (omega arith)
+
+      set-planned : (input : Input) → inputOf text ≡ given input → (y : Answer Plan) → planned input ≡ y → saidOf (linesFor y) ≡ some y
+      set-planned input set (given p) is = plan-said (input .board) (input .jobs) jobsMost slicesMost is
+      set-planned input set (refused number place) is = refusal number place (rw set is)
+
+      read : (x : Answer Input) → inputOf text ≡ x → saidOf (linesFor (andThen x planned)) ≡ some (andThen x planned)
+      read (given input) set = set-planned input set (planned input) refl
+      read (refused number place) is = refusal number place (rw is)
+
+said-some : (bytes : List ℕ) (a : Answer Plan) → saidOf bytes ≡ some a → 0 < length bytes
+unfolding saidOf linesOf allRead recordsSay
+said-some [] a e = let z : _≡_ {A = ℕ} 0 1 = cc in absurd (omega arith)
+said-some (b ∷ bytes) a e = omega arith
+
+pub answer-some : (text : List ℕ) → 0 < length (answerText text)
+answer-some text = said-some (answerText text) (answerOf text) (answer-said text)
+
+pub record Short (asked before after : List ℕ) (count : ℕ) : Type 0 where
+  pub few : length before < length (answerText asked)
+  pub zero : count ≡ 0
+  pub same : after ≡ before
+
+pub record Put (asked before after : List ℕ) (count : ℕ) : Type 0 where
+  pub enough : length (answerText asked) ≤ length before
+  pub all : count ≡ length (answerText asked)
+  pub front : after ≡ answerText asked ++ drop (length (answerText asked)) before
+
+pub entry-cases : {asked before after : List ℕ} {count : ℕ} → Entered asked before after count
+    → Short asked before after count ⊎ Put asked before after count
+entry-cases {asked} {before} {after} {count} p = go (ltb (length before) (length (answerText asked))) refl (p .count) (p .text)
+  where
+    go : (t : Bool) → ltb (length before) (length (answerText asked)) ≡ t → count ≡ cond t 0 (length (answerText asked))
+        → after ≡ cond t before (answerText asked ++ drop (length (answerText asked)) before)
+        → Short asked before after count ⊎ Put asked before after count
+    go true t is now = inl (record { few = ltb-true _ _ t; zero = is; same = now })
+    go false t is now = inr (record { enough = ltb-false _ _ t; all = is; front = now })
