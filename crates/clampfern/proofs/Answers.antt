@@ -3,7 +3,7 @@
 --   answer-said     the bytes of the answer say it
 --   answer-some     and there are some
 --   answer-listed   each refusal is listed, with its cause, and its number and place are small
---   entry-cases     the C entry either leaves bytes that are too few as they were, or puts the answer in front
+--   entry-cases     the C entry either leaves bytes that are too few as they were, or puts the answer in front; writes-put: so does a writer
 use mathlib.Core.Path.{_≡_, refl}
 use mathlib.Core.Bool.{Bool, true, false, cond}
 use mathlib.Core.List.{List, [], _∷_, _++_}
@@ -15,27 +15,41 @@ use lib.Dec.{ltb}
 use lib.ListN.{length, drop}
 use Rattle.model.specs.Limits.{jobsMost, slicesMost}
 use Rattle.model.specs.Refusal.{Answer, given, refused, andThen}
-use Rattle.text.specs.Hex.{Maybe, none, some, linesOf}
+use Rattle.text.specs.Hex.{some, linesOf}
 use Rattle.text.specs.Input.{Input, inputOf}
+use Rattle.text.specs.Output.{Writes}
+use Rattle.text.specs.declared.Written.the-variants.{Bytes}
 use Rattle.planner.specs.Plan.{Plan}
 use Rattle.planner.proofs.Causes.{plan-listed}
 use Rattle.planner.proofs.Demands.{listed-small}
 use Rattle.planner.proofs.Moving.{plan-roomy}
 use Rattle.clampfern.specs.Answer.{planned, linesFor, answerText, Entered}
-use Rattle.clampfern.specs.Listed.{Reached, TextListed, over, digits, unknown, job-first, board-later, empty, many, of-set}
+use Rattle.clampfern.specs.Listed.{TextListed, over, digits, unknown, job-first, board-later, empty, many, of-set}
 use Rattle.clampfern.specs.Said.{allRead, recordsSay, saidOf}
 use Rattle.clampfern.proofs.Refusals.{text-listed, set-few}
 use Rattle.clampfern.proofs.Says.{plan-said, refusal-said}
 
-pub text-listed-small : {text : List ℕ} {number place : ℕ} → TextListed text number place → (1 ≤ number) × (number ≤ 10) × (place ≤ 66)
-text-listed-small (over cause) = omega arith
-text-listed-small (digits i at cause) = omega (arith, at .most)
-text-listed-small (unknown i r at is cause) = omega (arith, at .most)
-text-listed-small (job-first j at cause) = omega arith
-text-listed-small (board-later i b at later cause) = omega (arith, at .most)
-text-listed-small (empty cause) = omega arith
-text-listed-small (many j at cause) = omega arith
-text-listed-small (of-set input is few listed) = omega (arith, listed-small listed)
+-- The numbers are 1 to 10 without 7, and no place is above 66.
+pub record SmallRefusal (number place : ℕ) : Type 0 where
+  pub some : 1 ≤ number
+  pub most : number ≤ 10
+  pub never-7 : number ≡ 7 → ⊥
+  pub place-most : place ≤ 66
+
+listed-so : {number place : ℕ} → 1 ≤ number → number ≤ 10 → (number ≡ 7 → ⊥) → place ≤ 66 → SmallRefusal number place
+listed-so a b c d = record { some = a; most = b; never-7 = c; place-most = d }
+
+pub text-listed-small : {text : List ℕ} {number place : ℕ} → TextListed text number place → SmallRefusal number place
+text-listed-small (over cause) = listed-so (omega arith) (omega arith) (λ e. omega arith) (omega arith)
+text-listed-small (digits i at cause) = listed-so (omega arith) (omega arith) (λ e. omega arith) (omega (arith, at .most))
+text-listed-small (unknown i r at is cause) = listed-so (omega arith) (omega arith) (λ e. omega arith) (omega (arith, at .most))
+text-listed-small (job-first j at cause) = listed-so (omega arith) (omega arith) (λ e. omega arith) (omega arith)
+text-listed-small (board-later i b at later cause) = listed-so (omega arith) (omega arith) (λ e. omega arith) (omega (arith, at .most))
+text-listed-small (empty cause) = listed-so (omega arith) (omega arith) (λ e. omega arith) (omega arith)
+text-listed-small (many j at cause) = listed-so (omega arith) (omega arith) (λ e. omega arith) (omega arith)
+text-listed-small (of-set input is few most listed) =
+    let small = listed-small listed in
+    listed-so (omega arith) (omega arith) (λ e. omega arith) (omega arith)
 
 module _ (text : List ℕ) where
   abbrev pub answerOf : Answer Plan
@@ -46,7 +60,8 @@ module _ (text : List ℕ) where
     where
       go : (x : Answer Input) → inputOf text ≡ x → andThen x planned ≡ refused number place → TextListed text number place
       go (given input) set e =
-          of-set input set (plan-roomy (input .board) (length (input .jobs)) (input .jobs) (set-few text input set) number place e)
+          let few = set-few text input set in
+          of-set input set few (plan-roomy (input .board) (length (input .jobs)) (input .jobs) few number place e)
           (plan-listed (input .board) (input .jobs) jobsMost slicesMost number place e)
       go (refused m q) none-read e =
           let a : m ≡ number = cc in
@@ -96,3 +111,12 @@ entry-cases {asked} {before} {after} {count} p = go (ltb (length before) (length
         → Short asked before after count ⊎ Put asked before after count
     go true t is now = inl (record { few = ltb-true _ _ t; zero = is; same = now })
     go false t is now = inr (record { enough = ltb-false _ _ t; all = is; front = now })
+
+pub writes-put : {before after : List ℕ} (lines : List ℕ) {count : ℕ} → Writes before after lines (Bytes count)
+    → (count ≡ length lines) × (after ≡ lines ++ drop (length lines) before)
+writes-put {before} {after} lines {count} w = go (ltb (length before) (length lines)) (w .says) (w .text)
+  where
+    go : (t : Bool) → given count ≡ cond t (refused 7 0) (given (length lines)) → after ≡ cond t before (lines ++ drop (length lines) before)
+        → (count ≡ length lines) × (after ≡ lines ++ drop (length lines) before)
+    go true says now = let z : _≡_ {A = ℕ} 0 1 = cc in absurd (omega arith)
+    go false says now = (cc, now)

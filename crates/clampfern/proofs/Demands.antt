@@ -1,16 +1,15 @@
--- The three demands, in their own words, of the bytes that a caller of `clampfern_plan` gets, whatever text he sends. Read this page first.
--- The first part is the call from C: it starts from the promise in the contract, `Entered`, and from nothing else. The call is given the text
--- `asked` and bytes that hold `before`; it answers `count`, and the lent bytes then hold `after`. Which of them are the answer is `entry-answer`,
--- and each demand then starts from bytes that are the answer to a text. So the demands hold of `plan_text` too (`text-answer`).
--- What bytes say is `saidOf` (specs/Said.antt): they are read by the rules of the format, and what is no plan and no refusal says nothing.
--- The words are those of the model, as on the planner's page: Does, Runs, SameCore, ticksIn, Split. Assumes nothing.
-use mathlib.Core.Bool.{Bool, true, false, cond}
-use mathlib.Core.List.{List, _++_}
+-- The three demands, in their own words, of the bytes that `clampfern_plan` answers, whatever the text. Read this page first if you call from C.
+-- Each theorem starts from the promise in the contract, `Entered`, and from nothing else: the call is given the text `asked` and lent bytes that
+-- hold `before`; it answers `count`, and the bytes then hold `after`. The first part says which of them are the answer. The demands are then
+-- stated of bytes that are the answer to a text, so that they hold of every call that gives such bytes, as `plan_text`.
+-- What bytes say is `saidOf` (specs/Said.antt), a reader by the rules of the format: what is neither a plan nor a refusal says nothing.
+-- The other words are those of the model, as on the planner's page: Does (one job's work), Runs (a tick of a slice), SameCore, ticksIn, Split.
+-- Assumes nothing.
+use mathlib.Core.List.{List}
 use mathlib.Core.Logic.{_↔_, ⊎-elim}
 use mathlib.Core.Path.{_≡_, refl, sym, ap, _∙_}
 use Prim.Native.Nat.{ℕ, _+_, _-_, _*_, _≤_, _<_}
 use native.Mathlib.Omega.{arith}
-use lib.Dec.{ltb}
 use lib.ListN.{length, take, drop, getD}
 use lib.Seq.{take-append-seam, drop-append-seam}
 use Rattle.model.specs.Board.{roomOf}
@@ -21,6 +20,8 @@ use Rattle.model.specs.Split.{share, ticksOn, Does, Split}
 use Rattle.model.specs.Timetable.{Runs, SameCore, Inside, ticksIn}
 use Rattle.model.specs.declared.Kind.{Kind}
 use Rattle.model.specs.declared.Kind.the-variants.{First, Second}
+use Rattle.model.specs.declared.Board.{Board}
+use Rattle.model.specs.declared.Job.{Job}
 use Rattle.model.specs.declared.Share.{Share}
 use Rattle.model.specs.declared.Slice.{Slice}
 use Rattle.model.proofs.Lists.{all-at, pairs-at}
@@ -31,10 +32,10 @@ use Rattle.split.specs.Shares.{sharesOf}
 use Rattle.split.proofs.Demands.{demands, exactly}
 use Rattle.text.specs.Hex.{Maybe, none, some}
 use Rattle.text.specs.Input.{Input, inputOf}
-use Rattle.text.specs.Output.{written, Writes}
-use Rattle.text.specs.declared.Written.the-variants.{Bytes, Full}
+use Rattle.text.specs.Output.{Writes}
+use Rattle.text.specs.declared.Written.the-variants.{Bytes}
 use Rattle.planner.specs.Place.{noSlice}
-use Rattle.planner.specs.Plan.{Plan, planOf, countsIn}
+use Rattle.planner.specs.Plan.{Plan, countsIn}
 use Rattle.planner.specs.Promise.{noJob, Kept}
 use Rattle.planner.proofs.Lent.{plan-room}
 use Rattle.planner.proofs.Plans.{do-length, plan-shares, plan-kept, shares-lawful, shares-accepted, accepted-few}
@@ -42,7 +43,7 @@ use Rattle.planner.proofs.Said.{do-at}
 use Rattle.clampfern.specs.Answer.{planned, answerText, Entered}
 use Rattle.clampfern.specs.Listed.{TextListed, of-set}
 use Rattle.clampfern.specs.Said.{saidOf}
-use Rattle.clampfern.proofs.Answers.{answerOf, answer-said, answer-some, answer-listed, entry-cases}
+use Rattle.clampfern.proofs.Answers.{SmallRefusal, text-listed-small, answerOf, answer-said, answer-some, answer-listed, entry-cases, writes-put}
 
 -- ==== The call from C.
 module _ {asked before after : List ℕ} {count : ℕ} (p : Entered asked before after count) where
@@ -61,67 +62,78 @@ module _ {asked before after : List ℕ} {count : ℕ} (p : Entered asked before
   entry-answer above = ⊎-elim (λ short. absurd (omega (arith, short .zero)))
       (λ put. rw (put .front, put .all) (take-append-seam (answerText asked) _)) (entry-cases p)
 
--- The same of `plan_text`, which gives a count only of bytes that fit.
-pub text-answer : (asked : List ℕ) {before after : List ℕ} {count : ℕ} → Writes before after (answerText asked) (Bytes count) → take count after ≡ answerText asked
-text-answer asked {before} {after} {count} w = go (ltb (length before) (length (answerText asked))) (w .says) (w .text)
-  where
-    go : (t : Bool) → given count ≡ cond t (refused 7 0) (given (length (answerText asked)))
-        → after ≡ cond t before (answerText asked ++ drop (length (answerText asked)) before) → take count after ≡ answerText asked
-    go true says now = let z : _≡_ {A = ℕ} 0 1 = cc in absurd (omega arith)
-    go false says now = let all : count ≡ length (answerText asked) = cc in rw (now, all) (take-append-seam (answerText asked) _)
+-- The same of `plan_text`, which gives a count only where the lines fit.
+pub text-answer : (asked : List ℕ) {before after : List ℕ} {count : ℕ} → Writes before after (answerText asked) (Bytes count)
+    → take count after ≡ answerText asked
+text-answer asked w = let put = writes-put (answerText asked) w in rw (put .1, put .0) (take-append-seam (answerText asked) _)
 
 -- ==== Demand 1. Any input at all is planned or refused by number and place. Nothing is left to the caller to check, every call ends, a
 -- refusal changes nothing that was lent but the bytes of its line.
 -- That nothing is left to check and that every call ends is what a contract with no `requires` is.
 
+-- A text describes a set: a board, and its jobs in order (inputOf, in the text's specs).
+abbrev pub Describes : List ℕ → Board → List Job → Type 0
+Describes asked board js = inputOf asked ≡ given (record { board = board; jobs = js })
+
 -- What bytes may say to a text: a plan with a share for each job of the set that the text describes, or a refusal by number and place, with its
 -- cause; never nothing.
 abbrev pub PlannedOrRefused : List ℕ → Maybe (Answer Plan) → Type 0
 PlannedOrRefused asked none = ⊥
-PlannedOrRefused asked (some (given p)) = (input : Input) × (inputOf asked ≡ given input) × (length (p .shares) ≡ length (input .jobs))
+PlannedOrRefused asked (some (given p)) = (board : Board) × (js : List Job) × Describes asked board js × (length (p .shares) ≡ length js)
 PlannedOrRefused asked (some (refused number place)) = TextListed asked number place
 
 module _ (asked : List ℕ) {bytes : List ℕ} (answer : bytes ≡ answerText asked) where
   said : saidOf bytes ≡ some (answerOf asked)
   said = rw answer (answer-said asked)
 
-  -- Any text at all is planned or refused by number and place.
+  -- Any text at all is planned or refused by number and place, and says so.
   pub any-text-answered : PlannedOrRefused asked (saidOf bytes)
   any-text-answered = rw said (go (inputOf asked) refl)
     where
       of : (input : Input) → inputOf asked ≡ given input → (y : Answer Plan) → planned input ≡ y → PlannedOrRefused asked (some y)
-      of input set (given p) is =
-          (input, set, do-length (input .board .window) (input .jobs) (p .shares)
-          (plan-kept (input .board) (length (input .jobs)) (input .jobs) jobsMost slicesMost is .whole .does))
+      of input set (given p) is = (
+        input .board,
+        input .jobs,
+        set,
+        do-length (input .board .window) (input .jobs) (p .shares)
+            (plan-kept (input .board) (length (input .jobs)) (input .jobs) jobsMost slicesMost is .whole .does),
+      )
       of input set (refused number place) is = answer-listed asked number place (rw set is)
 
       go : (x : Answer Input) → inputOf asked ≡ x → PlannedOrRefused asked (some (andThen x planned))
       go (given input) set = of input set (planned input) refl
       go (refused number place) is = answer-listed asked number place (rw is)
 
-  module _ {input : Input} (describes : inputOf asked ≡ given input) where
-    -- What the bytes say of the set that the text describes.
-    told : {x : Answer Plan} → saidOf bytes ≡ some x → planned input ≡ x
-    told {x} says = let same = rw describes at (sym said ∙ says) in cc
+  -- The numbers of a refusal are 1 to 10 without 7, which a count of 0 stands for, and no place is above 66.
+  pub refusal-small : {number place : ℕ} → saidOf bytes ≡ some (refused number place) → SmallRefusal number place
+  refusal-small says = text-listed-small (rw says at any-text-answered)
+
+  module _ {board : Board} {js : List Job} (describes : Describes asked board js) where
+    -- Plan or refusal, the bytes say what the rules give for the set that the text describes (planOf, in the planner's specs).
+    pub said-of-rules : saidOf bytes ≡ some (planned (record { board = board; jobs = js }))
+    said-of-rules = rw describes at said
+
+    told : {x : Answer Plan} → saidOf bytes ≡ some x → planned (record { board = board; jobs = js }) ≡ x
+    told says = let same = sym said-of-rules ∙ says in cc
 
     -- ==== Demand 2. Split and slices are those of the rules. In every accepted plan each job gets its whole work, no core runs two jobs at
     -- once, no job is in two places at once.
     module _ {p : Plan} (says : saidOf bytes ≡ some (given p)) where
       -- The split is that of the rules (Hetero-Split: split's specs), and so are the slices, row by row (Hetero-Wrap: slices' specs).
-      pub split-of-rules : sharesOf (input .board) (length (input .jobs)) (input .jobs) ≡ given (p .shares)
-      split-of-rules = plan-shares (input .board) (length (input .jobs)) (input .jobs) jobsMost slicesMost (told says) .0
+      pub split-of-rules : sharesOf board (length js) js ≡ given (p .shares)
+      split-of-rules = plan-shares board (length js) js jobsMost slicesMost (told says) .0
 
-      pub slices-of-rules : p .slices ≡ tableOf (input .board .window) (p .shares)
-      slices-of-rules = plan-shares (input .board) (length (input .jobs)) (input .jobs) jobsMost slicesMost (told says) .1
+      pub slices-of-rules : p .slices ≡ tableOf (board .window) (p .shares)
+      slices-of-rules = plan-shares board (length js) js jobsMost slicesMost (told says) .1
 
-      kept : Kept (input .board) (input .jobs) (p .shares) (p .slices)
-      kept = plan-kept (input .board) (length (input .jobs)) (input .jobs) jobsMost slicesMost (told says)
+      kept : Kept board js (p .shares) (p .slices)
+      kept = plan-kept board (length js) js jobsMost slicesMost (told says)
 
-      shares-all : length (p .shares) ≡ length (input .jobs)
-      shares-all = do-length (input .board .window) (input .jobs) (p .shares) (kept .whole .does)
+      shares-all : length (p .shares) ≡ length js
+      shares-all = do-length (board .window) js (p .shares) (kept .whole .does)
 
-      accepted : Accepted (input .board) (input .jobs) (p .shares)
-      accepted = shares-accepted (input .board) (length (input .jobs)) (input .jobs) split-of-rules
+      accepted : Accepted board js (p .shares)
+      accepted = shares-accepted board (length js) js split-of-rules
 
       -- Row i of the slices, and the share of job j.
       abbrev row : ℕ → Slice
@@ -131,16 +143,16 @@ module _ (asked : List ℕ) {bytes : List ℕ} (answer : bytes ≡ answerText as
       shareOf j = getD (p .shares) j (share 0 0)
 
       -- Each job gets its whole work: its share, in whole ticks, does it,
-      pub job-whole : (j : ℕ) → j < length (input .jobs) → Does (input .board .window) 1 (getD (input .jobs) j noJob) (shareOf j)
-      job-whole j l = do-at (input .board .window) 1 noJob (share 0 0) (input .jobs) (p .shares) j l (kept .whole .does)
+      pub job-whole : (j : ℕ) → j < length js → Does (board .window) 1 (getD js j noJob) (shareOf j)
+      job-whole j l = do-at (board .window) 1 noJob (share 0 0) js (p .shares) j l (kept .whole .does)
 
       -- the lengths of its slices on each kind add up to the share,
-      pub job-served : (kind : Kind) (j : ℕ) → j < length (input .jobs) → ticksIn kind j (p .slices) ≡ ticksOn kind (shareOf j)
+      pub job-served : (kind : Kind) (j : ℕ) → j < length js → ticksIn kind j (p .slices) ≡ ticksOn kind (shareOf j)
       job-served kind j l = kept .timetable .served kind j (omega (arith, shares-all))
 
       -- and each slice is of a job of the set, inside the window, and on a core that the board has.
-      pub slice-inside : (i : ℕ) → i < length (p .slices) → Inside (input .board) (length (input .jobs)) (row i)
-      slice-inside i l = rw shares-all at (all-at (Inside (input .board) (length (p .shares))) noSlice (p .slices) i l (kept .timetable .inside))
+      pub slice-inside : (i : ℕ) → i < length (p .slices) → Inside board (length js) (row i)
+      slice-inside i l = rw shares-all at (all-at (Inside board (length (p .shares))) noSlice (p .slices) i l (kept .timetable .inside))
 
       -- No core runs two jobs at once: no tick is in two rows of one core.
       pub core-one-job : (i k tick : ℕ) → i < k → k < length (p .slices) → SameCore (row i) (row k) → Runs (row i) tick → Runs (row k) tick → ⊥
@@ -151,33 +163,45 @@ module _ (asked : List ℕ) {bytes : List ℕ} (answer : bytes ≡ answerText as
       job-one-place i k tick l m same = pairs-at _ noSlice (p .slices) i k l m (kept .timetable .jobs) same tick
 
       -- A plan has at most m1 + m2 movers, and at most n + 2·(m1 + m2) − 2 slices.
-      pub movers-few : movers (p .shares) ≤ input .board .first + input .board .second
+      pub movers-few : movers (p .shares) ≤ board .first + board .second
       movers-few = accepted .few-movers
 
-      pub slices-few : length (p .slices) + 2 ≤ length (input .jobs) + 2 * (input .board .first + input .board .second)
+      pub slices-few : length (p .slices) + 2 ≤ length js + 2 * (board .first + board .second)
       slices-few =
           rw slices-of-rules
-          (accepted-few (input .board) (length (input .jobs)) (input .jobs) (p .shares)
-          (shares-lawful (input .board) (length (input .jobs)) (input .jobs) split-of-rules) accepted)
+          (accepted-few board (length js) js (p .shares)
+          (shares-lawful board (length js) js split-of-rules) accepted)
 
     -- ==== Demand 3. A legal set is refused for room only if no split exists, even in fractions of ticks, on a board with one tick fewer
     -- per window for each stretched job on the kind where it fits. With no stretched job, exactly when no split exists at all.
     -- The room of a kind, with one tick fewer for each stretched job that fits there.
     abbrev less : Kind → ℕ
-    less kind = roomOf (input .board) kind - stretchedOn (input .board) (input .jobs) kind
+    less kind = roomOf board kind - stretchedOn board js kind
 
-    for-room : saidOf bytes ≡ some (refused 6 0) → sharesOf (input .board) (length (input .jobs)) (input .jobs) ≡ refused 6 0
-    for-room says = plan-room (input .board) (length (input .jobs)) (input .jobs) jobsMost slicesMost (ap countsIn (told says))
+    for-room : saidOf bytes ≡ some (refused 6 0) → sharesOf board (length js) js ≡ refused 6 0
+    for-room says = plan-room board (length js) js jobsMost slicesMost (ap countsIn (told says))
 
     -- Refused for room only if no split exists on the smaller board.
-    pub room-only : saidOf bytes ≡ some (refused 6 0) → Split (input .board .window) (less First) (less Second) (input .jobs) → ⊥
-    room-only says = rw (for-room says) at (demands (input .board) (length (input .jobs)) (input .jobs)) refl
+    pub room-only : saidOf bytes ≡ some (refused 6 0) → Split (board .window) (less First) (less Second) js → ⊥
+    room-only says = rw (for-room says) at (demands board (length js) js) refl
 
     -- With no stretched job, exactly when no split exists at all.
-    pub room-exactly : legalOf (input .board) (length (input .jobs)) (input .jobs) ≡ given tt
-        → stretchedOn (input .board) (input .jobs) First ≡ 0 → stretchedOn (input .board) (input .jobs) Second ≡ 0
+    pub room-exactly : legalOf board (length js) js ≡ given tt
+        → stretchedOn board js First ≡ 0 → stretchedOn board js Second ≡ 0
         → (saidOf bytes ≡ some (refused 6 0))
-        ↔ (Split (input .board .window) (roomOf (input .board) First) (roomOf (input .board) Second) (input .jobs) → ⊥)
+        ↔ (Split (board .window) (roomOf board First) (roomOf board Second) js → ⊥)
     room-exactly legal none₁ none₂ =
-        let iff = exactly (input .board) (length (input .jobs)) (input .jobs) legal none₁ none₂ in
+        let iff = exactly board (length js) js legal none₁ none₂ in
         (λ says. iff .0 (for-room says), λ split. said ∙ rw (describes, iff .1 split))
+
+  -- Only a text that describes a set is refused for room.
+  pub room-described : saidOf bytes ≡ some (refused 6 0) → (board : Board) × (js : List Job) × Describes asked board js
+  room-described says = of-six (rw says at any-text-answered)
+    where
+      of-six : TextListed asked 6 0 → (board : Board) × (js : List Job) × Describes asked board js
+      of-six (of-set input is few most listed) = (input .board, input .jobs, is)
+
+-- So every call from C with bytes enough gives a plan or a refusal, and the theorems above hold of what it says.
+pub entry-answered : {asked before after : List ℕ} {count : ℕ} → Entered asked before after count → 0 < count
+    → PlannedOrRefused asked (saidOf (take count after))
+entry-answered {asked} p above = any-text-answered asked (entry-answer p above)

@@ -1,5 +1,8 @@
--- Every refusal of a text is listed, with its cause: line by line, as the text is read. Assumes nothing.
-use mathlib.Core.Path.{_≡_, refl, sym, ap, subst, _∙_}
+-- Every refusal of a text is listed, with its cause: line by line, as the text is read. The one idea: what is left of the lines is a drop of the
+-- text's lines, so that the line in hand is known by its number. Assumes nothing.
+--   text-listed   a text that describes no set has a listed refusal
+--   set-few       a text that describes a set has at most 64 jobs in it
+use mathlib.Core.Path.{_≡_, refl, ap, subst}
 use mathlib.Core.Bool.{Bool, true, false, cond}
 use mathlib.Core.List.{List, [], _∷_}
 use Prim.Native.Nat.{ℕ, _+_, _-_, _≤_, _<_}
@@ -8,7 +11,7 @@ use native.Mathlib.Omega.{arith}
 use borrow.Author.Count.{below-more}
 use borrow.Author.Tests.{ltb-true, ltb-false}
 use lib.Dec.{ltb}
-use lib.ListN.{length, getD, drop, length-drop}
+use lib.ListN.{length, drop, length-drop}
 use lib.Seq.{drop-cons}
 use Rattle.model.specs.Limits.{jobsMost, textMost}
 use Rattle.model.specs.Refusal.{Answer, given, refused, andThen}

@@ -2,12 +2,11 @@
 -- place. The numbers are whole by the bounds of an accepted plan (ReadBack), so every field is read back. Assumes nothing.
 --   plan-said      the lines of an accepted plan
 --   refusal-said   the line of a refusal, whose number and place are bytes
-use mathlib.Core.Path.{_≡_, refl, sym, ap, _∙_}
+use mathlib.Core.Path.{_≡_, refl, _∙_}
 use mathlib.Core.List.{List, [], _∷_, _++_, map}
 use Prim.Native.Nat.{ℕ, _+_, _<_}
 use native.Mathlib.Omega.{arith}
 use borrow.Author.Tests.{eq-eqb}
-use lib.Dec.{eqb}
 use lib.ListN.{length, length-append, length-map}
 use lib.Seq.{take-at, drop-at}
 use Rattle.model.specs.Lists.{All}
@@ -18,11 +17,11 @@ use Rattle.model.specs.declared.Board.{Board}
 use Rattle.model.specs.declared.Job.{Job}
 use Rattle.model.specs.declared.Share.{Share}
 use Rattle.model.specs.declared.Slice.{Slice}
-use Rattle.text.specs.Hex.{Maybe, some, linesOf, bytesOf, textOf, two, numberFrom, numberIn}
+use Rattle.text.specs.Hex.{some, linesOf, bytesOf, two, numberFrom, numberIn}
 use Rattle.text.specs.Output.{shareRecord, shareRecords, sliceRecord, planRecords, planText, refusedText, refusedRecords}
 use Rattle.text.proofs.RoundTrip.{read-back}
 use Rattle.planner.specs.Plan.{Plan, planOf}
-use Rattle.clampfern.specs.Said.{thenRead, allRead, shareIn, sharesFrom, sliceIn, planIn, recordsSay, saidOf}
+use Rattle.clampfern.specs.Said.{allRead, shareIn, sharesFrom, sliceIn, planIn, recordsSay, saidOf}
 use Rattle.clampfern.proofs.ReadBack.{plan-back, plan-numbers}
 
 one-back : (x : ℕ) → numberIn (x ∷ []) ≡ x
@@ -57,11 +56,11 @@ unfolding shareRecords
 shares-length job [] = refl
 shares-length job (s ∷ ss) = rw (shares-length (job + 1) ss)
 
-slice-said : (job : ℕ) (kind : Kind) (core start length : ℕ) → numberIn (two start) ≡ start → numberIn (two length) ≡ length
-    → let s : Slice = record { job = job; kind = kind; core = core; start = start; length = length } in sliceIn (sliceRecord s) ≡ some s
+slice-said : (job : ℕ) (kind : Kind) (core start ticks : ℕ) → numberIn (two start) ≡ start → numberIn (two ticks) ≡ ticks
+    → let s : Slice = record { job = job; kind = kind; core = core; start = start; length = ticks } in sliceIn (sliceRecord s) ≡ some s
 unfolding sliceIn
-slice-said job First core start length whole whole′ = rw (one-back 18, one-back 1, one-back job, one-back core, whole, whole′)
-slice-said job Second core start length whole whole′ = rw (one-back 18, one-back 2, one-back job, one-back core, whole, whole′)
+slice-said job First core start ticks whole whole′ = rw (one-back 18, one-back 1, one-back job, one-back core, whole, whole′)
+slice-said job Second core start ticks whole whole′ = rw (one-back 18, one-back 2, one-back job, one-back core, whole, whole′)
 
 slices-said : (rows : List Slice) → All (λ (s : Slice). (numberIn (two (s .start)) ≡ s .start) × (numberIn (two (s .length)) ≡ s .length)) rows
     → map sliceIn (map sliceRecord rows) ≡ map (λ (s : Slice). some s) rows
@@ -96,5 +95,5 @@ module _ (board : Board) (js : List Job) (m k : ℕ) {p : Plan} (is : planOf boa
 pub refusal-said : (number place : ℕ) → number < 256 → place < 256 → saidOf (refusedText number place) ≡ some (refused number place)
 unfolding recordsSay
 refusal-said number place small small′ =
-    said-records (refusedText number place) (refusedRecords number place) (read-back (refusedRecords number place) ((omega arith), tt)) ∙
+    said-records (refusedText number place) (refusedRecords number place) (read-back (refusedRecords number place) (omega arith, tt)) ∙
     rw (one-back 31, one-back number, one-back place)

@@ -41,6 +41,7 @@ pub data TextListed (text : List ℕ) : (number place : ℕ) → Type 0 where
   board-later : (i : ℕ) (b : Board) → Reached text i → 2 ≤ i → lineSays i (lineAt text i) ≡ given (OfBoard b) → TextListed text 10 i
   empty : text ≡ [] → TextListed text 10 1
   many : (j : Job) → Reached text 66 → lineSays 66 (lineAt text 66) ≡ given (OfJob j) → TextListed text 3 jobsMost
-  -- A text that describes a set has the refusals of the set, and never 7: the tables inside are long enough for every set.
-  of-set : {number place : ℕ} (input : Input) → inputOf text ≡ given input → number ≤ 6
+  -- A text that describes a set has the refusals of the set, but never 3, since its jobs were counted as they were read, nor 7, since the tables
+  -- inside are long enough for every set.
+  of-set : {number place : ℕ} (input : Input) → inputOf text ≡ given input → length (input .jobs) ≤ jobsMost → number ≤ 6
       → Listed (input .board) (input .jobs) jobsMost slicesMost number place → TextListed text number place
