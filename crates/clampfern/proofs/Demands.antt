@@ -14,7 +14,7 @@ use lib.ListN.{length, take, drop, getD}
 use lib.Seq.{take-append-seam, drop-append-seam}
 use Rattle.model.specs.Board.{roomOf}
 use Rattle.model.specs.Limits.{jobsMost, slicesMost}
-use Rattle.model.specs.Movers.{movers}
+use Rattle.model.specs.Movers.{movers, unevens}
 use Rattle.model.specs.Refusal.{Answer, given, refused, andThen}
 use Rattle.model.specs.Split.{share, ticksOn, Does, Split}
 use Rattle.model.specs.Timetable.{Runs, SameCore, Inside, ticksIn}
@@ -27,7 +27,7 @@ use Rattle.model.specs.declared.Slice.{Slice}
 use Rattle.model.proofs.Lists.{all-at, pairs-at}
 use Rattle.legal.specs.Legal.{legalOf}
 use Rattle.slices.specs.Table.{tableOf}
-use Rattle.split.specs.Promise.{stretchedOn, Accepted}
+use Rattle.split.specs.Promise.{stretchedOn}
 use Rattle.split.specs.Shares.{sharesOf}
 use Rattle.split.proofs.Demands.{demands, exactly}
 use Rattle.text.specs.Hex.{Maybe, none, some}
@@ -38,12 +38,13 @@ use Rattle.planner.specs.Place.{noSlice}
 use Rattle.planner.specs.Plan.{Plan, countsIn}
 use Rattle.planner.specs.Promise.{noJob, Kept}
 use Rattle.planner.proofs.Lent.{plan-room}
-use Rattle.planner.proofs.Plans.{do-length, plan-shares, plan-kept, shares-lawful, shares-accepted, accepted-few}
+use Rattle.planner.proofs.Plans.{do-length, plan-shares, plan-kept}
 use Rattle.planner.proofs.Said.{do-at}
 use Rattle.clampfern.specs.Answer.{planned, answerText, Entered}
 use Rattle.clampfern.specs.Listed.{TextListed, of-set}
 use Rattle.clampfern.specs.Said.{saidOf}
 use Rattle.clampfern.proofs.Answers.{SmallRefusal, text-listed-small, answerOf, answer-said, answer-some, answer-listed, entry-cases, writes-put}
+use Rattle.clampfern.proofs.Causes.{listed-answer}
 
 -- ==== The call from C.
 module _ {asked before after : List ℕ} {count : ℕ} (p : Entered asked before after count) where
@@ -104,9 +105,13 @@ module _ (asked : List ℕ) {bytes : List ℕ} (answer : bytes ≡ answerText as
       go (given input) set = of input set (planned input) refl
       go (refused number place) is = answer-listed asked number place (rw is)
 
+  -- A refusal is given exactly when its line of the list applies: to the text, or to the set that it describes.
+  pub refused-exactly : {number place : ℕ} → (saidOf bytes ≡ some (refused number place)) ↔ TextListed asked number place
+  refused-exactly = (λ says. rw says at any-text-answered, λ listed. said ∙ rw (listed-answer asked listed))
+
   -- The numbers of a refusal are 1 to 10 without 7, which a count of 0 stands for, and no place is above 66.
   pub refusal-small : {number place : ℕ} → saidOf bytes ≡ some (refused number place) → SmallRefusal number place
-  refusal-small says = text-listed-small (rw says at any-text-answered)
+  refusal-small says = text-listed-small (refused-exactly .0 says)
 
   module _ {board : Board} {js : List Job} (describes : Describes asked board js) where
     -- Plan or refusal, the bytes say what the rules give for the set that the text describes (planOf, in the planner's specs).
@@ -131,9 +136,6 @@ module _ (asked : List ℕ) {bytes : List ℕ} (answer : bytes ≡ answerText as
 
       shares-all : length (p .shares) ≡ length js
       shares-all = do-length (board .window) js (p .shares) (kept .whole .does)
-
-      accepted : Accepted board js (p .shares)
-      accepted = shares-accepted board (length js) js split-of-rules
 
       -- Row i of the slices, and the share of job j.
       abbrev row : ℕ → Slice
@@ -162,15 +164,15 @@ module _ (asked : List ℕ) {bytes : List ℕ} (answer : bytes ≡ answerText as
       pub job-one-place : (i k tick : ℕ) → i < k → k < length (p .slices) → row i .job ≡ row k .job → Runs (row i) tick → Runs (row k) tick → ⊥
       job-one-place i k tick l m same = pairs-at _ noSlice (p .slices) i k l m (kept .timetable .jobs) same tick
 
-      -- A plan has at most m1 + m2 movers, and at most n + 2·(m1 + m2) − 2 slices.
+      -- At most m1 + m2 jobs move, at most one of them is not even, and there are at most n + 2·(m1 + m2) − 2 slices.
       pub movers-few : movers (p .shares) ≤ board .first + board .second
-      movers-few = accepted .few-movers
+      movers-few = kept .few-movers
+
+      pub one-uneven : unevens (board .window) (p .shares) ≤ 1
+      one-uneven = kept .one-uneven
 
       pub slices-few : length (p .slices) + 2 ≤ length js + 2 * (board .first + board .second)
-      slices-few =
-          rw slices-of-rules
-          (accepted-few board (length js) js (p .shares)
-          (shares-lawful board (length js) js split-of-rules) accepted)
+      slices-few = kept .few
 
     -- ==== Demand 3. A legal set is refused for room only if no split exists, even in fractions of ticks, on a board with one tick fewer
     -- per window for each stretched job on the kind where it fits. With no stretched job, exactly when no split exists at all.
@@ -196,7 +198,7 @@ module _ (asked : List ℕ) {bytes : List ℕ} (answer : bytes ≡ answerText as
 
   -- Only a text that describes a set is refused for room.
   pub room-described : saidOf bytes ≡ some (refused 6 0) → (board : Board) × (js : List Job) × Describes asked board js
-  room-described says = of-six (rw says at any-text-answered)
+  room-described says = of-six (refused-exactly .0 says)
     where
       of-six : TextListed asked 6 0 → (board : Board) × (js : List Job) × Describes asked board js
       of-six (of-set input is few most listed) = (input .board, input .jobs, is)

@@ -1,5 +1,6 @@
 pub mod Answers
 pub mod Bounds
+pub mod Causes
 pub mod Demands
 pub mod Determined
 pub mod Entry
