@@ -34,12 +34,16 @@ pub record Reached (text : List ℕ) (i : ℕ) : Type 0 where
   pub before : (k : ℕ) → k < i → 1 ≤ k → Good text k
 
 pub data TextListed (text : List ℕ) : (number place : ℕ) → Type 0 where
+  -- 8: more bytes than a text may have, before any line; or a line with no digits, an odd number of them, or a byte that is no digit.
   over : textMost < length text → TextListed text 8 0
   digits : (i : ℕ) → Reached text i → bytesOf (lineAt text i) ≡ none → TextListed text 8 i
+  -- 9: a record that is none of an input's.
   unknown : (i : ℕ) (r : List ℕ) → Reached text i → bytesOf (lineAt text i) ≡ some r → entryOf r ≡ none → TextListed text 9 i
+  -- 10: the first line is no board, a later one is, or there is no line.
   job-first : (j : Job) → Reached text 1 → lineSays 1 (lineAt text 1) ≡ given (OfJob j) → TextListed text 10 1
   board-later : (i : ℕ) (b : Board) → Reached text i → 2 ≤ i → lineSays i (lineAt text i) ≡ given (OfBoard b) → TextListed text 10 i
   empty : text ≡ [] → TextListed text 10 1
+  -- 3: one job too many, after a board and 64 jobs.
   many : (j : Job) → Reached text 66 → lineSays 66 (lineAt text 66) ≡ given (OfJob j) → TextListed text 3 jobsMost
   -- A text that describes a set has the refusals of the set, but never 3, since its jobs were counted as they were read, nor 7, since the tables
   -- inside are long enough for every set.
