@@ -1,12 +1,11 @@
 -- What the answer to a text says, for every text: its plan, or its refusal, which is listed. Assumes nothing.
 --   answerOf        the plan of the set that a text describes, or the first refusal
 --   answer-said     the bytes of the answer say it
---   answer-some     and there are some
 --   answer-listed   each refusal is listed, with its cause, and its number and place are small
 --   entry-cases     the C entry either leaves bytes that are too few as they were, or puts the answer in front; writes-put: so does a writer
 use mathlib.Core.Path.{_≡_, refl}
 use mathlib.Core.Bool.{Bool, true, false, cond}
-use mathlib.Core.List.{List, [], _∷_, _++_}
+use mathlib.Core.List.{List, _++_}
 use mathlib.Core.Logic.{_⊎_, inl, inr}
 use Prim.Native.Nat.{ℕ, _≤_, _<_}
 use native.Mathlib.Omega.{arith}
@@ -15,7 +14,7 @@ use lib.Dec.{ltb}
 use lib.ListN.{length, drop}
 use Rattle.model.specs.Limits.{jobsMost, slicesMost}
 use Rattle.model.specs.Refusal.{Answer, given, refused, andThen}
-use Rattle.text.specs.Hex.{some, linesOf}
+use Rattle.text.specs.Hex.{some}
 use Rattle.text.specs.Input.{Input, inputOf}
 use Rattle.text.specs.Output.{Writes}
 use Rattle.text.specs.declared.Written.the-variants.{Bytes}
@@ -25,7 +24,7 @@ use Rattle.planner.proofs.Demands.{listed-small}
 use Rattle.planner.proofs.Moving.{plan-roomy}
 use Rattle.clampfern.specs.Answer.{planned, linesFor, answerText, Entered}
 use Rattle.clampfern.specs.Listed.{TextListed, over, digits, unknown, job-first, board-later, empty, many, of-set}
-use Rattle.clampfern.specs.Said.{allRead, recordsSay, saidOf}
+use Rattle.clampfern.specs.Said.{saidOf}
 use Rattle.clampfern.proofs.Refusals.{text-listed, set-few}
 use Rattle.clampfern.proofs.Says.{plan-said, refusal-said}
 
@@ -83,14 +82,6 @@ module _ (text : List ℕ) where
       read : (x : Answer Input) → inputOf text ≡ x → saidOf (linesFor (andThen x planned)) ≡ some (andThen x planned)
       read (given input) set = set-planned input set (planned input) refl
       read (refused number place) is = refusal number place (rw is)
-
-said-some : (bytes : List ℕ) (a : Answer Plan) → saidOf bytes ≡ some a → 0 < length bytes
-unfolding saidOf linesOf allRead recordsSay
-said-some [] a e = let z : _≡_ {A = ℕ} 0 1 = cc in absurd (omega arith)
-said-some (b ∷ bytes) a e = omega arith
-
-pub answer-some : (text : List ℕ) → 0 < length (answerText text)
-answer-some text = said-some (answerText text) (answerOf text) (answer-said text)
 
 pub record Short (asked before after : List ℕ) (count : ℕ) : Type 0 where
   pub few : length before < length (answerText asked)

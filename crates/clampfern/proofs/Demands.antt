@@ -1,7 +1,7 @@
 -- The three demands, in their own words, of the bytes that `clampfern_plan` answers, whatever the text. Read this page first if you call from C.
 -- Each theorem starts from the promise in the contract, `Entered`, and from nothing else: the call is given the text `asked` and lent bytes that
 -- hold `before`; it answers `count`, and the bytes then hold `after`. The first part says which of them are the answer. The demands are then
--- stated of bytes that are the answer to a text, so that they hold of every call that gives such bytes, as `plan_text`.
+-- stated of bytes that are the answer to a text, so that they hold of every call that gives such bytes, as `plan_text` and `answer`.
 -- What bytes say is `saidOf` (specs/Said.antt), a reader by the rules of the format: what is neither a plan nor a refusal says nothing.
 -- The other words are those of the model, as on the planner's page: Does (one job's work), Runs (a tick of a slice), SameCore, ticksIn, Split.
 -- Assumes nothing.
@@ -32,7 +32,7 @@ use Rattle.split.specs.Shares.{sharesOf}
 use Rattle.split.proofs.Demands.{demands, exactly}
 use Rattle.text.specs.Hex.{Maybe, none, some}
 use Rattle.text.specs.Input.{Input, inputOf}
-use Rattle.text.specs.Output.{Writes}
+use Rattle.text.specs.Output.{answerMost, Writes}
 use Rattle.text.specs.declared.Written.the-variants.{Bytes}
 use Rattle.planner.specs.Place.{noSlice}
 use Rattle.planner.specs.Plan.{Plan, countsIn}
@@ -40,18 +40,25 @@ use Rattle.planner.specs.Promise.{noJob, Kept}
 use Rattle.planner.proofs.Lent.{plan-room}
 use Rattle.planner.proofs.Plans.{do-length, plan-shares, plan-kept}
 use Rattle.planner.proofs.Said.{do-at}
-use Rattle.clampfern.specs.Answer.{planned, answerText, Entered}
+use Rattle.clampfern.specs.Answer.{planned, answerText, Entered, Answered}
+use Rattle.clampfern.specs.declared.AnswerLines.{AnswerLines}
 use Rattle.clampfern.specs.Listed.{TextListed, of-set}
 use Rattle.clampfern.specs.Said.{saidOf}
-use Rattle.clampfern.proofs.Answers.{SmallRefusal, text-listed-small, answerOf, answer-said, answer-some, answer-listed, entry-cases, writes-put}
+use Rattle.clampfern.proofs.Answers.{SmallRefusal, text-listed-small, answerOf, answer-said, answer-listed, entry-cases, writes-put}
 use Rattle.clampfern.proofs.Causes.{listed-answer}
+use Rattle.clampfern.proofs.Size.{answer-size}
 
 -- ==== The call from C.
 module _ {asked before after : List ℕ} {count : ℕ} (p : Entered asked before after count) where
   -- The count is 0 exactly where the lent bytes are fewer than the answer, which is how this call tells refusal 7. Whatever fits is answered.
   pub zero-exactly-short : (count ≡ 0) ↔ (length before < length (answerText asked))
   zero-exactly-short = ⊎-elim (λ short. (λ _. short .few, λ _. short .zero))
-      (λ put. (λ zero. absurd (omega (arith, answer-some asked, put .all)), λ few. absurd (omega (arith, put .enough)))) (entry-cases p)
+      (λ put. (λ zero. absurd (omega (arith, answer-size asked .0, put .all)), λ few. absurd (omega (arith, put .enough)))) (entry-cases p)
+
+  -- Lent bytes of the most that an answer has, 2,437, are always enough.
+  pub most-always-enough : answerMost ≤ length before → 0 < count
+  most-always-enough enough = ⊎-elim (λ short. absurd (omega (arith, short .few, answer-size asked .1)))
+      (λ put. omega (arith, put .all, answer-size asked .0)) (entry-cases p)
 
   -- No byte past the count has changed: where it is 0, no byte at all.
   pub rest-unchanged : drop count after ≡ drop count before
@@ -67,6 +74,10 @@ module _ {asked before after : List ℕ} {count : ℕ} (p : Entered asked before
 pub text-answer : (asked : List ℕ) {before after : List ℕ} {count : ℕ} → Writes before after (answerText asked) (Bytes count)
     → take count after ≡ answerText asked
 text-answer asked w = let put = writes-put (answerText asked) w in rw (put .1, put .0) (take-append-seam (answerText asked) _)
+
+-- And of `answer`, which lends nothing and gives the bytes by value.
+pub value-answer : {asked : List ℕ} {r : AnswerLines} → Answered asked r → take (r .size) (r .bytes) ≡ answerText asked
+value-answer {asked} a = rw (a .bytes, a .size) (take-append-seam (answerText asked) _)
 
 -- ==== Demand 1. Any input at all is planned or refused by number and place. Nothing is left to the caller to check, every call ends, a
 -- refusal changes nothing that was lent but the bytes of its line.
