@@ -92,6 +92,19 @@ answers '4,096 bytes' $'1f0901\n' digits 4096
 answers '4,097 bytes' $'1f0800\n' digits 4097
 answers '100,000 bytes' $'1f0800\n' digits 100000
 
+# The longest answer: 64 jobs on 8 and 8 cores with 94 slices, so 2,437 bytes (planner/specs/Most.antt has the same set).
+longest() {
+    printf '01%04x0808\n' 1000
+    printf '0200%08x%08x\n' $(times 15 '800 1338 ') 400 900
+    printf '0201%08x00000000\n' $(times 24 '10 ')
+    printf '020200000000%08x\n' $(times 24 '5 ')
+}
+longest | "${run[@]}" >"$out" 2>"$err"
+if [ "${PIPESTATUS[1]} $(wc -c <"$out") $(head -n 1 "$out") $(wc -l <"$out") $(wc -c <"$err")" != '0 2437 10405e 159 0' ]; then
+    echo "the longest answer: $(wc -c <"$out") bytes, of which the first line is '$(head -n 1 "$out")'"
+    bad=1
+fi
+
 "${run[@]}" <. >"$out" 2>"$err"
 is 'a directory for input' "$?" '' "$unread"
 "${run[@]}" <&- >"$out" 2>"$err"
