@@ -1,3 +1,4 @@
+pub mod BothSides
 pub mod Determined
 pub mod Fields
 pub mod Lists
