@@ -14,7 +14,7 @@ use mathlib.Core.List.{List, [], _∷_, map}
 use mathlib.Core.Path.{_≡_, refl}
 use Prim.Native.Nat.{ℕ, zero, suc, _+_, _*_, _≤_, _<_}
 use native.Mathlib.Omega.{arith}
-use lib.ListN.{length, getD}
+use lib.ListN.{getD}
 use Rattle.model.specs.Limits.{windowMost, coresMost, jobsMost, costMost, slicesMost, textMost}
 use Rattle.model.specs.Board.{coresOf, roomOf}
 use Rattle.model.specs.Movers.{isMover, isEven, movers, unevens}
@@ -28,20 +28,20 @@ use Rattle.model.specs.declared.Job.the-variants.{Both, OnlyFirst, OnlyS
 use Rattle.model.specs.declared.Share.{Share}
 use Rattle.model.specs.declared.Slice.{Slice}
 
-abbrev board : ℕ → ℕ → Board
+abbrev pub board : ℕ → ℕ → Board
 board first second = record { window = 10; first = first; second = second }
 
-abbrev row : ℕ → Kind → (core start length : ℕ) → Slice
+abbrev pub row : ℕ → Kind → (core start length : ℕ) → Slice
 row job kind core start length = record { job = job; kind = kind; core = core; start = start; length = length }
 
 -- Document 01's B(a,b) and F(a), and the same on the second kind.
-abbrev B : ℕ → ℕ → Job
+abbrev pub B : ℕ → ℕ → Job
 B a b = Both (record { 0 = a }) (record { 0 = b })
 
-abbrev F : ℕ → Job
+abbrev pub F : ℕ → Job
 F a = OnlyFirst (record { 0 = a })
 
-abbrev S : ℕ → Job
+abbrev pub S : ℕ → Job
 S a = OnlySecond (record { 0 = a })
 
 -- ==== The numbers
