@@ -163,10 +163,10 @@ rows-past-the-window-not t = omega arith
 abbrev Meeting : (s t : Share) (job : ℕ) → Kind → (core : ℕ) → Type 0
 Meeting s t job kind core = Timetable (board 2 1) (s ∷ t ∷ []) (row 0 First 0 0 5 ∷ row 1 Second 0 9 1 ∷ row job kind core 4 4 ∷ [])
 
-runs-five : Runs (row 0 First 0 0 5) 4
+pub runs-five : Runs (row 0 First 0 0 5) 4
 runs-five = omega arith
 
-runs-four : Runs (row 0 First 0 4 4) 4
+pub runs-four : Runs (row 0 First 0 4 4) 4
 runs-four = omega arith
 
 pub core-twice-not : Meeting (share 5 0) (share 4 1) 1 First 0 → ⊥
@@ -187,7 +187,7 @@ two-jobs P a b c d Second (suc zero) l = d
 two-jobs P a b c d kind (suc (suc job)) l = absurd (omega arith)
 
 -- Cores of different kinds are different cores, whatever their numbers.
-kinds-differ : {A : Type 0} {a b : ℕ} → (First ≡ Second) × (a ≡ b) → A
+pub kinds-differ : {A : Type 0} {a b : ℕ} → (First ≡ Second) × (a ≡ b) → A
 kinds-differ e = let z : _≡_ {A = ℕ} 0 1 = cc in absurd (omega arith)
 
 pub table-full : Full (board 1 1) (share 4 6 ∷ share 6 4 ∷ [])

@@ -1,3 +1,4 @@
+pub mod BothSides
 pub mod Cuts
 pub mod Packs
 pub mod Pieces
