@@ -19,11 +19,12 @@ use Rattle.model.specs.declared.Job.{Job}
 use Rattle.model.specs.declared.Share.{Share}
 use Rattle.model.specs.declared.Slice.{Slice}
 use Rattle.model.proofs.Lists.{all-map, all-append}
+use Rattle.model.proofs.Splits.{do-length}
 use Rattle.legal.specs.Lawful.{Lawful}
 use Rattle.planner.specs.Plan.{Plan, planOf, sharesIn}
 use Rattle.planner.specs.Promise.{Filled}
 use Rattle.planner.specs.declared.Tables.{Tables}
-use Rattle.planner.proofs.Plans.{do-length, plan-shares, plan-kept, shares-lawful, shares-accepted, accepted-fits}
+use Rattle.planner.proofs.Plans.{plan-shares, plan-kept, shares-lawful, shares-accepted, accepted-fits}
 use Rattle.clampfern.specs.Answer.{InLine}
 
 pub record Small (p : Plan) : Type 0 where
@@ -39,7 +40,7 @@ module _ (board : Board) (js : List Job) (m k : ℕ) {p : Plan} (is : planOf boa
       let law = shares-lawful board (length js) js (made .0) in
       let kept = plan-kept board (length js) js m k is in
       let fits = accepted-fits board (length js) js (p .shares) law (shares-accepted board (length js) js (made .0)) in
-      let size = do-length (board .window) js (p .shares) (kept .whole .does) in
+      let size = do-length (board .window) 1 js (p .shares) (kept .whole .does) in
       record {
         few-jobs = omega (arith, law .few);
         few-slices = omega (arith, kept .few, law .few, law .first-most, law .second-most);

@@ -25,6 +25,7 @@ use Rattle.model.specs.declared.Job.{Job}
 use Rattle.model.specs.declared.Share.{Share}
 use Rattle.model.specs.declared.Slice.{Slice}
 use Rattle.model.proofs.Lists.{all-at, pairs-at}
+use Rattle.model.proofs.Splits.{do-length, do-at}
 use Rattle.legal.specs.Legal.{legalOf}
 use Rattle.slices.specs.Table.{tableOf}
 use Rattle.split.specs.Promise.{stretchedOn}
@@ -38,8 +39,7 @@ use Rattle.planner.specs.Place.{noSlice}
 use Rattle.planner.specs.Plan.{Plan, countsIn}
 use Rattle.planner.specs.Promise.{noJob, Kept}
 use Rattle.planner.proofs.Lent.{plan-room}
-use Rattle.planner.proofs.Plans.{do-length, plan-shares, plan-kept}
-use Rattle.planner.proofs.Said.{do-at}
+use Rattle.planner.proofs.Plans.{plan-shares, plan-kept}
 use Rattle.clampfern.specs.Answer.{planned, answerText, Entered, Answered}
 use Rattle.clampfern.specs.declared.AnswerLines.{AnswerLines}
 use Rattle.clampfern.specs.Listed.{TextListed, of-set}
@@ -107,7 +107,7 @@ module _ (asked : List ℕ) {bytes : List ℕ} (answer : bytes ≡ answerText as
         input .board,
         input .jobs,
         set,
-        do-length (input .board .window) (input .jobs) (p .shares)
+        do-length (input .board .window) 1 (input .jobs) (p .shares)
             (plan-kept (input .board) (length (input .jobs)) (input .jobs) jobsMost slicesMost is .whole .does),
       )
       of input set (refused number place) is = answer-listed asked number place (rw set is)
@@ -146,7 +146,7 @@ module _ (asked : List ℕ) {bytes : List ℕ} (answer : bytes ≡ answerText as
       kept = plan-kept board (length js) js jobsMost slicesMost (told says)
 
       shares-all : length (p .shares) ≡ length js
-      shares-all = do-length (board .window) js (p .shares) (kept .whole .does)
+      shares-all = do-length (board .window) 1 js (p .shares) (kept .whole .does)
 
       -- Row i of the slices, and the share of job j.
       abbrev row : ℕ → Slice

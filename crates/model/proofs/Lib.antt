@@ -4,4 +4,5 @@ pub mod Fields
 pub mod Lists
 pub mod Movers
 pub mod Product
+pub mod Splits
 pub mod Walk

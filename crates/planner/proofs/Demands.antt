@@ -23,6 +23,7 @@ use Rattle.model.specs.declared.Refusal.{Refusal}
 use Rattle.model.specs.declared.Share.{Share}
 use Rattle.model.specs.declared.Slice.{Slice}
 use Rattle.model.proofs.Lists.{all-at}
+use Rattle.model.proofs.Splits.{do-at}
 use Rattle.legal.specs.Lawful.{Lawful}
 use Rattle.legal.specs.Legal.{legalOf}
 use Rattle.split.specs.Promise.{stretchedOn, SmallerSplit}
@@ -33,7 +34,7 @@ use Rattle.planner.specs.Promise.{noJob, Promised}
 use Rattle.planner.specs.declared.Planned.{Planned}
 use Rattle.planner.specs.declared.Planned.the-variants.{Plan, Refused}
 use Rattle.planner.proofs.Causes.{plan-listed, listed-plan, short-tables, lawful-left}
-use Rattle.planner.proofs.Said.{do-at, counts-there, rows-pair, call-refused}
+use Rattle.planner.proofs.Said.{counts-there, rows-pair, call-refused}
 
 -- ==== Demand 1. Any input at all is planned or refused by number and place. Nothing is left to the caller to check, every call ends, a
 -- refusal changes no entry of the lent tables.

@@ -26,6 +26,7 @@ use Rattle.model.specs.declared.Job.the-variants.{Both, OnlyFirst, OnlySecond}
 use Rattle.model.specs.declared.Share.{Share}
 use Rattle.model.specs.declared.Slice.{Slice}
 use Rattle.model.proofs.Lists.{sum-append}
+use Rattle.model.proofs.Splits.{do-length}
 use Rattle.legal.specs.Lawful.{LegalJob}
 use Rattle.slices.specs.Moves.{movesOf, sumBelow, OncePerCore}
 use Rattle.slices.specs.Table.{tableOf}
@@ -39,7 +40,7 @@ use Rattle.planner.specs.Place.{noSlice}
 use Rattle.planner.specs.Plan.{Plan, fitted, planOf, sharesIn, slicesIn}
 use Rattle.planner.specs.Promise.{Filled}
 use Rattle.planner.specs.declared.Tables.{Tables}
-use Rattle.planner.proofs.Plans.{do-length, shares-lawful, shares-accepted, accepted-fits, accepted-few, plan-shares, plan-kept}
+use Rattle.planner.proofs.Plans.{shares-lawful, shares-accepted, accepted-fits, accepted-few, plan-shares, plan-kept}
 
 -- ---- the list of moves
 module _ (rows : List Slice) where
@@ -120,7 +121,7 @@ module _ (board : Board) (n : ℕ) (js : List Job) (m k : ℕ) (p : Plan) (is : 
   pub moves-few : outers (movesIn (planOf board n js m k)) + inners (movesIn (planOf board n js m k)) + 2 ≤ 2 * (board .first + board .second)
   moves-few =
       let kept = plan-kept board n js m k is in
-      omega (arith, moves-slices, kept .few, do-length (board .window) js (p .shares) (kept .whole .does))
+      omega (arith, moves-slices, kept .few, do-length (board .window) 1 js (p .shares) (kept .whole .does))
 
 -- A plan for tables that are long enough for every set is refused by 6 at most, and so never by 7.
 pub plan-roomy : (board : Board) (n : ℕ) (js : List Job) → length js ≤ jobsMost → (number place : ℕ)
@@ -133,7 +134,7 @@ plan-roomy board n js short number place e = go (sharesOf board n js) refl e
     go (given ss) is e =
         let law = shares-lawful board n js is in
         let ok = shares-accepted board n js is in
-        let few : length ss ≤ jobsMost = omega (arith, do-length (board .window) js ss (ok .whole .does)) in
+        let few : length ss ≤ jobsMost = omega (arith, do-length (board .window) 1 js ss (ok .whole .does)) in
         let rows : length (tableOf (board .window) ss) ≤ slicesMost =
         omega (arith, accepted-few board n js ss law ok, law .first-most, law .second-most) in
         let fits = rw (le-ltb jobsMost (length ss) few, le-ltb slicesMost (length (tableOf (board .window) ss)) rows) at e in

@@ -26,6 +26,7 @@ use Rattle.model.specs.declared.Job.the-variants.{Both, OnlyFirst, OnlySecond}
 use Rattle.model.specs.declared.Refusal.{Refusal}
 use Rattle.model.specs.declared.Refusal.the-variants.{Space}
 use Rattle.model.specs.declared.Share.{Share}
+use Rattle.model.proofs.Splits.{do-length}
 use Rattle.legal.specs.Lawful.{Lawful}
 use Rattle.legal.specs.Legal.{legalOf}
 use Rattle.legal.proofs.Lawful.{legal-lawful}
@@ -52,12 +53,6 @@ do-each w (j ∷ js) [] d = absurd d
 do-each w (Both c1 c2 ∷ js) (s ∷ ss) d = (omega arith, do-each w js ss (d .1))
 do-each w (OnlyFirst c1 ∷ js) (s ∷ ss) d = (omega arith, do-each w js ss (d .1))
 do-each w (OnlySecond c2 ∷ js) (s ∷ ss) d = (omega arith, do-each w js ss (d .1))
-
-pub do-length : (w : ℕ) (js : List Job) (ss : List Share) → Do w 1 js ss → length ss ≡ length js
-do-length w [] [] d = refl
-do-length w [] (s ∷ ss) d = absurd d
-do-length w (j ∷ js) [] d = absurd d
-do-length w (j ∷ js) (s ∷ ss) d = omega (arith, do-length w js ss (d .1))
 
 module _ (board : Board) (n : ℕ) (js : List Job) where
   -- Shares are given of legal sets alone.
@@ -88,7 +83,7 @@ module _ (board : Board) (n : ℕ) (js : List Job) where
 
     pub accepted-few : length (tableOf (board .window) ss) + 2 ≤ length js + 2 * (board .first + board .second)
     accepted-few =
-        omega (arith, table-few board ss accepted-fits (law .first-some) (law .second-some), do-length (board .window) js ss (ok .whole .does))
+        omega (arith, table-few board ss accepted-fits (law .first-some) (law .second-some), do-length (board .window) 1 js ss (ok .whole .does))
 
     kept : Kept board js ss (tableOf (board .window) ss)
     kept =

@@ -1,37 +1,29 @@
 -- What a promise of the planning call says to one who reads it: the definition's cases taken apart once, for the pages that state the
 -- demands. Assumes nothing.
---   do-at          shares that do the jobs, job by job
 --   counts-are     the counts of an accepted plan are those of the definition's
 --   counts-there   an accepted plan has a share for each job, the rows that it counts are there and are the definition's, and those past
 --                  them are as they were
 --   rows-pair      what every two rows of a plan's table have between them, by their numbers
 --   call-refused   a refusal is the definition's
 use mathlib.Core.Path.{_≡_, refl, ap}
-use mathlib.Core.List.{List, [], _∷_}
-use Prim.Native.Nat.{ℕ, zero, suc, _<_}
+use mathlib.Core.List.{List}
+use Prim.Native.Nat.{ℕ, _<_}
 use native.Mathlib.Omega.{arith}
 use lib.ListN.{length, take, drop, getD}
 use lib.Seq.{take-append-seam, drop-append-seam, getD-take}
 use Rattle.model.specs.Lists.{Pairs}
 use Rattle.model.specs.Refusal.{Answer, given, refused, saysRefusal}
-use Rattle.model.specs.Split.{Does, Do}
 use Rattle.model.specs.declared.Board.{Board}
 use Rattle.model.specs.declared.Job.{Job}
 use Rattle.model.specs.declared.Refusal.{Refusal}
 use Rattle.model.specs.declared.Share.{Share}
 use Rattle.model.specs.declared.Slice.{Slice}
 use Rattle.model.proofs.Lists.{pairs-at}
+use Rattle.model.proofs.Splits.{do-length}
 use Rattle.planner.specs.Plan.{Plan, Counts, planOf, sharesIn, slicesIn, countsIn, saysPlanned, front}
 use Rattle.planner.specs.Place.{noSlice}
 use Rattle.planner.specs.Promise.{Promised}
 use Rattle.planner.specs.declared.Planned.the-variants.{Plan as Counted, Refused}
-use Rattle.planner.proofs.Plans.{do-length}
-
-pub do-at : (w n : ℕ) (a : Job) (b : Share) (js : List Job) (ss : List Share) (j : ℕ) → j < length js → Do w n js ss → Does w n (getD js j a) (getD ss j b)
-do-at w n a b [] ss j l d = absurd (omega arith)
-do-at w n a b (x ∷ js) [] j l d = absurd d
-do-at w n a b (x ∷ js) (s ∷ ss) zero l d = d .0
-do-at w n a b (x ∷ js) (s ∷ ss) (suc j) l d = do-at w n a b js ss j (omega arith) (d .1)
 
 -- ---- the counts
 counts-are : (jobs slices : ℕ) (x : Answer Plan) → saysPlanned (Counted jobs slices) ≡ countsIn x
@@ -66,7 +58,7 @@ counts-there {board} {js} {ss} {ss′} {ls} {ls′} {jobs} {slices} p =
     let shares = front-rows (sharesIn x) ss ss′ jobs (counts .0) (p .shares) in
     let rows = front-rows (slicesIn x) ls ls′ slices (counts .1) (p .slices) in
     record {
-      all = omega (arith, counts .0, ap length (shares .0), do-length (board .window) js (take jobs ss′) (p .demand2 .whole .does));
+      all = omega (arith, counts .0, ap length (shares .0), do-length (board .window) 1 js (take jobs ss′) (p .demand2 .whole .does));
       share-rows = omega (arith, counts .0, ap length (shares .0));
       slice-rows = omega (arith, counts .1, ap length (rows .0));
       by-rules = plan-of (take jobs ss′) (take slices ls′) _ x (p .answer) (shares .0) (rows .0);
