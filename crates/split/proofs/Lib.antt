@@ -12,6 +12,7 @@ pub mod Stands
 pub mod Run
 pub mod Smaller
 pub mod Demands
+pub mod Promises
 pub mod Each
 pub mod Placed
 pub mod Closed
