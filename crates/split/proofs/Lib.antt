@@ -1,3 +1,4 @@
+pub mod BothSides
 pub mod Walk
 pub mod Signed
 pub mod Number

@@ -1,0 +1,121 @@
+-- Both sides of the lines of the split's promise, as model/proofs/BothSides.antt has them for the model: examples exactly at a limit, and
+-- such as are wrong by one there and nowhere else. The lines that are held, in this order:
+--   stretchedAt   a cost of W and one more, on either kind, on both and on neither; a job on one kind
+--   smaller       one tick fewer for each stretched job, on its home
+--   Accepted      rooms exactly full, each kind by its own; no uneven mover, one, and two; as many movers as cores. That few-movers cannot fail by
+--                 itself is movers-few of the model, so no example is wrong in it alone
+--   Demands       a refusal for room with the slack, where the smaller board has a split and where it just has none
+--   Exactly       a refusal where there is a split, and shares where there is none
+-- Assumes nothing.
+use mathlib.Core.List.{List, [], _∷_, map}
+use mathlib.Core.Path.{_≡_, refl}
+use Prim.Native.Nat.{ℕ, _+_}
+use native.Mathlib.Omega.{arith}
+use Rattle.model.specs.Refusal.{given, refused}
+use Rattle.model.specs.Split.{share, Does, Do, ticksOf, Split}
+use Rattle.model.specs.declared.Kind.the-variants.{First, Second}
+use Rattle.model.specs.declared.Job.{Job}
+use Rattle.model.specs.declared.Share.{Share}
+use Rattle.model.proofs.BothSides.{board, B, F, S}
+use Rattle.legal.specs.Legal.{lowest, legalOf}
+use Rattle.split.specs.Home.{stretchedAt}
+use Rattle.split.specs.Promise.{smaller, Accepted, Demands, Exactly}
+
+-- ==== stretchedAt, in a window of 10
+abbrev limits : List Job
+limits = B 10 10 ∷ B 10 11 ∷ B 11 10 ∷ B 11 11 ∷ F 10 ∷ F 11 ∷ S 10 ∷ S 11 ∷ []
+
+pub stretched-first : map (stretchedAt First 10) limits ≡ 0 ∷ 1 ∷ 0 ∷ 0 ∷ 0 ∷ 0 ∷ 0 ∷ 0 ∷ []
+unfolding stretchedAt
+stretched-first = refl
+
+pub stretched-second : map (stretchedAt Second 10) limits ≡ 0 ∷ 0 ∷ 1 ∷ 0 ∷ 0 ∷ 0 ∷ 0 ∷ 0 ∷ []
+unfolding stretchedAt
+stretched-second = refl
+
+-- ==== smaller: two stretched jobs at home on the first kind, and one on the second
+abbrev three : List Job
+three = B 10 11 ∷ B 11 10 ∷ B 6 16 ∷ B 10 10 ∷ []
+
+pub smaller-are : smaller (board 2 3) three First ∷ smaller (board 2 3) three Second ∷ [] ≡ 18 ∷ 29 ∷ []
+unfolding stretchedAt
+smaller-are = refl
+
+-- ==== Accepted: B(2,3) has its whole work with 2 ticks on the first kind, or 3 on the second, or 1 and 2
+abbrev two : List Job
+two = B 2 3 ∷ B 2 3 ∷ []
+
+pub accepted-no-uneven : Accepted (board 1 1) two (share 2 0 ∷ share 0 3 ∷ [])
+accepted-no-uneven = search arith
+
+-- Two movers, as many as cores, and both kinds exactly full.
+pub accepted-one-uneven : Accepted (board 1 1) two (share 4 6 ∷ share 6 3 ∷ []) × Accepted (board 1 1) two (share 4 6 ∷ share 6 4 ∷ [])
+accepted-one-uneven = search arith
+
+pub accepted-two-unevens-not : Accepted (board 1 1) two (share 1 2 ∷ share 1 2 ∷ []) → ⊥
+accepted-two-unevens-not a = omega arith
+
+pub accepted-short-not : Accepted (board 1 1) two (share 2 0 ∷ share 1 1 ∷ []) → ⊥
+accepted-short-not a = omega arith
+
+pub accepted-rooms : Accepted (board 2 1) (F 10 ∷ F 10 ∷ []) (share 10 0 ∷ share 10 0 ∷ [])
+    × Accepted (board 1 2) (S 10 ∷ S 10 ∷ []) (share 0 10 ∷ share 0 10 ∷ [])
+accepted-rooms = search arith
+
+pub accepted-first-not : Accepted (board 2 3) (F 10 ∷ F 10 ∷ F 1 ∷ []) (share 10 0 ∷ share 10 0 ∷ share 1 0 ∷ []) → ⊥
+accepted-first-not a = omega arith
+
+pub accepted-second-not : Accepted (board 3 2) (S 10 ∷ S 10 ∷ S 1 ∷ []) (share 0 10 ∷ share 0 10 ∷ share 0 1 ∷ []) → ⊥
+accepted-second-not a = omega arith
+
+-- ==== Demands and Exactly
+-- The two shares of a set of two jobs.
+two-shares : {w room1 room2 : ℕ} {i j : Job} (s : Split w room1 room2 (i ∷ j ∷ []))
+    → (a : Share) × (b : Share) × Does w (s .whole) i a × Does w (s .whole) j b × (ticksOf First (s .shares) ≡ a .first .0 + b .first .0)
+    × (ticksOf Second (s .shares) ≡ a .second .0 + b .second .0)
+two-shares {w} {i = i} {j = j} s = go (s .shares) (s .does)
+  where
+    go : (ss : List Share) → Do w (s .whole) (i ∷ j ∷ []) ss
+        → (a : Share) × (b : Share) × Does w (s .whole) i a × Does w (s .whole) j b × (ticksOf First ss ≡ a .first .0 + b .first .0)
+        × (ticksOf Second ss ≡ a .second .0 + b .second .0)
+    go [] d = absurd d
+    go (a ∷ []) d = absurd (d .1)
+    go (a ∷ b ∷ []) d = (a, b, d .0, d .1 .0, omega arith, omega arith)
+    go (a ∷ b ∷ c ∷ ss) d = absurd (d .1 .1)
+
+-- A stretched job needs 3.6 ticks at home, where the smaller board has 9: with 6 for the other job there is no split, with 5 there is.
+pub demands-first : Demands (board 1 1) (B 6 16 ∷ F 6 ∷ []) (refused 6 0)
+unfolding stretchedAt
+demands-first six s = omega (arith, two-shares s)
+
+pub demands-first-not : Demands (board 1 1) (B 6 16 ∷ F 5 ∷ []) (refused 6 0) → ⊥
+unfolding stretchedAt
+demands-first-not d =
+    d refl (record { whole = 1; some = omega arith; shares = share 4 6 ∷ share 5 0 ∷ []; does = omega arith; within1 = omega arith; within2 = omega arith })
+
+pub demands-second : Demands (board 1 1) (B 16 6 ∷ S 6 ∷ []) (refused 6 0)
+unfolding stretchedAt
+demands-second six s = omega (arith, two-shares s)
+
+pub demands-second-not : Demands (board 1 1) (B 16 6 ∷ S 5 ∷ []) (refused 6 0) → ⊥
+unfolding stretchedAt
+demands-second-not d =
+    d refl (record { whole = 1; some = omega arith; shares = share 6 4 ∷ share 0 5 ∷ []; does = omega arith; within1 = omega arith; within2 = omega arith })
+
+-- Shares that are given are accepted ones.
+pub demands-given-not : Demands (board 1 1) (F 10 ∷ []) (given (share 9 0 ∷ [])) → ⊥
+demands-given-not d = omega arith
+
+-- With no stretched job: both kinds exactly full, and the first over by one tick.
+pub exactly-refused-not : Exactly (board 1 1) 2 (F 10 ∷ S 10 ∷ []) (refused 6 0) → ⊥
+unfolding lowest legalOf stretchedAt
+exactly-refused-not e =
+    e refl refl refl .0 refl
+    (record { whole = 1; some = omega arith; shares = share 10 0 ∷ share 0 10 ∷ []; does = omega arith; within1 = omega arith; within2 = omega arith })
+
+pub exactly-given-not : Exactly (board 1 1) 2 (F 10 ∷ F 1 ∷ []) (given (share 10 0 ∷ share 1 0 ∷ [])) → ⊥
+unfolding lowest legalOf stretchedAt
+exactly-given-not e =
+    let is = e refl refl refl .1 (λ s. omega (arith, two-shares s)) in
+    let z : _≡_ {A = ℕ} 0 1 = cc in
+    omega arith
