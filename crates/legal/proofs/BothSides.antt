@@ -4,11 +4,11 @@
 --   Lawful      a window of 0, 1, 65,535 and 65,536, cores 0, 1, 8 and 9 of each kind, 64 and 65 jobs, a job that is not legal
 --   legalOf     the same limits by the checks, each with its number and its place
 -- That LegalJob and Lawful say exactly what the checks let pass is in Lawful.antt. Assumes nothing.
-use mathlib.Core.List.{List, [], _∷_, map}
+use mathlib.Core.List.{[], _∷_, map}
 use mathlib.Core.Path.{_≡_, refl}
 use Prim.Native.Nat.{ℕ}
 use native.Mathlib.Omega.{arith}
-use Rattle.model.specs.Refusal.{Answer, given, refused}
+use Rattle.model.specs.Refusal.{given, refused}
 use Rattle.model.specs.declared.Board.{Board}
 use Rattle.model.specs.declared.Job.{Job}
 use Rattle.model.proofs.BothSides.{B, F, S}
