@@ -1,5 +1,7 @@
 // Runs the split on the sets of document 01 and on the Table I of source document 003, and on sets that every check refuses. A line each:
-// whether the starting balance of the two kinds is the one written beside the set, then the shares, or the refusal's number and place.
+// the starting balance of the two kinds, then the shares, or the refusal's number and place.
+ghost use mathlib.Core.Path.{_≡_};
+ghost use lib.IntN.{natAbs};
 use libc::STDOUT_FILENO;
 use model::Board;
 use model::FirstTicks;
@@ -67,27 +69,37 @@ fn put_shares(shares: [Share; JOBS_MOST], n: usize) {
     }
 }
 
-// Whether the starting balance is the expected one, where there is one.
-fn put_balance(balanced: Balanced, first: i64, second: i64) {
+// The size of a number, without its sign. That of one below zero is counted from −1, since the size of the lowest number is none of its type.
+fn size_of(n: i64) -> u64
+    ensures { λ r. ⌜ r ≡ natAbs n ⌝ }
+{
+    if n < 0 { (-1 - n) as u64 + 1 } else { n as u64 }
+}
+
+fn put_signed(n: i64) {
+    if n < 0 {
+        put(b"-");
+    }
+    put_number(size_of(n));
+}
+
+// The starting balance, where there is one.
+fn put_balance(balanced: Balanced) {
     match balanced {
         Balanced::Given(b) => {
-            if b.first == first {
-                if b.second == second {
-                    put(b"balance right; ");
-                } else {
-                    put(b"balance WRONG on the second kind; ");
-                }
-            } else {
-                put(b"balance WRONG on the first kind; ");
-            }
+            put(b"balance ");
+            put_signed(b.first);
+            put(b" ");
+            put_signed(b.second);
+            put(b"; ");
         }
         Balanced::Unbalanced(_) => put(b"no balance; "),
     }
 }
 
-// The line of a set of the first `n` jobs, whose starting balance is to be `first` and `second`.
-fn show(board: Board, jobs: [Job; JOBS_MOST], n: usize, first: i64, second: i64) {
-    put_balance(split::starting_balance(board, jobs, n), first, second);
+// The line of a set of the first `n` jobs.
+fn show(board: Board, jobs: [Job; JOBS_MOST], n: usize) {
+    put_balance(split::starting_balance(board, jobs, n));
     let shared = split::split(board, jobs, n);
     let outcome = shared.outcome;
     match outcome {
@@ -116,20 +128,20 @@ fn table_of_document_01() {
     let x = both(1, 1);
     let s = both(6, 16);
     let t = both(10, 10);
-    show(one, four(x, x, x, x), 0, 10, 10);
-    show(one, four(both(6, 9), both(6, 8), x, x), 2, -2, 10);
-    show(one, four(both(9, 6), both(8, 6), x, x), 2, 10, -2);
-    show(one, four(s, first(6), x, x), 2, -2, 10);
-    show(one, four(t, t, x, x), 2, -10, 10);
-    show(one, four(t, t, t, x), 3, -20, 10);
-    show(one, four(first(10), x, x, x), 1, 0, 10);
-    show(one, four(first(11), x, x, x), 1, 0, 0);
-    show(one, four(both(11, 11), x, x, x), 1, 0, 0);
-    show(one, four(both(10, 11), x, x, x), 1, 0, 10);
-    show(two, four(s, s, s, first(8)), 4, -6, 20);
-    show(two, four(s, s, s, first(9)), 4, -7, 20);
-    show(one, four(both(7, 7), x, x, x), 1, 3, 10);
-    show(one, four(both(11, 10), x, x, x), 1, 10, 0);
+    show(one, four(x, x, x, x), 0);
+    show(one, four(both(6, 9), both(6, 8), x, x), 2);
+    show(one, four(both(9, 6), both(8, 6), x, x), 2);
+    show(one, four(s, first(6), x, x), 2);
+    show(one, four(t, t, x, x), 2);
+    show(one, four(t, t, t, x), 3);
+    show(one, four(first(10), x, x, x), 1);
+    show(one, four(first(11), x, x, x), 1);
+    show(one, four(both(11, 11), x, x, x), 1);
+    show(one, four(both(10, 11), x, x, x), 1);
+    show(two, four(s, s, s, first(8)), 4);
+    show(two, four(s, s, s, first(9)), 4);
+    show(one, four(both(7, 7), x, x, x), 1);
+    show(one, four(both(11, 10), x, x, x), 1);
 }
 
 fn table_of_source_003() {
@@ -140,7 +152,7 @@ fn table_of_source_003() {
     jobs[3] = both(18, 9);
     jobs[4] = both(12, 8);
     jobs[5] = both(8, 9);
-    show(board(10, 3, 2), jobs, 7, 18, -9);
+    show(board(10, 3, 2), jobs, 7);
 }
 
 // Every check, on both sides of its limit, with the job that it names.
@@ -148,34 +160,22 @@ fn refusals() {
     let wide = board(10, 8, 8);
     let ok = both(6, 9);
     let all = four(ok, ok, ok, ok);
-    show(board(0, 1, 1), all, 1, 0, 0);
-    show(board(65536, 1, 1), all, 1, 0, 0);
-    show(board(65535, 1, 1), all, 1, 65529, 65535);
-    show(board(4294967295, 9, 0), all, 65, 0, 0);
-    show(board(10, 0, 1), all, 1, 0, 0);
-    show(board(10, 1, 9), all, 1, 0, 0);
-    show(wide, all, 1, 74, 80);
-    show(wide, four(first(0), ok, ok, ok), 65, 0, 0);
-    show(wide, all, 18446744073709551615, 0, 0);
-    show(
-        wide,
-        four(second(1), second(1), second(1), second(1)),
-        64,
-        80,
-        16,
-    );
-    show(wide, four(ok, both(1, 0), first(11), ok), 3, 0, 0);
-    show(wide, four(ok, first(11), both(1, 1000001), ok), 3, 0, 0);
-    show(
-        wide,
-        four(ok, both(1000000, 11), first(4294967295), ok),
-        3,
-        0,
-        0,
-    );
-    show(wide, four(ok, both(1000000, 10), second(11), ok), 3, 0, 0);
-    show(wide, four(ok, ok, ok, second(1000000)), 4, 0, 0);
-    show(wide, four(ok, ok, ok, second(1000000)), 3, 62, 80);
+    show(board(0, 1, 1), all, 1);
+    show(board(65536, 1, 1), all, 1);
+    show(board(65535, 1, 1), all, 1);
+    show(board(4294967295, 9, 0), all, 65);
+    show(board(10, 0, 1), all, 1);
+    show(board(10, 1, 9), all, 1);
+    show(wide, all, 1);
+    show(wide, four(first(0), ok, ok, ok), 65);
+    show(wide, all, 18446744073709551615);
+    show(wide, four(second(1), second(1), second(1), second(1)), 64);
+    show(wide, four(ok, both(1, 0), first(11), ok), 3);
+    show(wide, four(ok, first(11), both(1, 1000001), ok), 3);
+    show(wide, four(ok, both(1000000, 11), first(4294967295), ok), 3);
+    show(wide, four(ok, both(1000000, 10), second(11), ok), 3);
+    show(wide, four(ok, ok, ok, second(1000000)), 4);
+    show(wide, four(ok, ok, ok, second(1000000)), 3);
 }
 
 fn main() {
