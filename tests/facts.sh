@@ -1,0 +1,64 @@
+#!/usr/bin/env bash
+# The program `facts`, as built by `rt check`: the starting balance and the moves, or the refusal, of some sets; and that it never says `lent wrong`, which
+# it would where the lent call kept to other rows, or gave other moves, than it should. A row is a set's lines and the lines to be said of it.
+set -u -o pipefail
+cd "$(dirname "$0")/.." || exit 2
+bad=0
+seen=0
+made=$(mktemp -d)
+trap 'rm -rf "$made"' EXIT
+out=$made/out
+err=$made/err
+run=(timeout 60 tools/run facts)
+
+# is NAME STATUS WANT COMPLAINT: the program ended with status 0, and wrote exactly this to standard output and exactly that to standard error.
+is() {
+    seen=$((seen + 1))
+    if [ "$2" != 0 ] || ! printf %s "$3" | cmp -s - "$out" || ! printf %s "$4" | cmp -s - "$err"; then
+        printf '%s: status %s, answer:\n' "$1" "$2"
+        cat "$out"
+        printf 'standard error:\n'
+        cat "$err"
+        bad=1
+    fi
+}
+
+# says NAME SET WANT: what it says of a set. Lines are written with a blank between them in a set, and a semicolon in what is said.
+says() {
+    printf %s "${2:+$2 }" | tr ' ' '\n' | "${run[@]}" >"$out" 2>"$err"
+    is "$1" "$?" "$(printf %s "$3" | tr ';' '\n')"$'\n' ''
+}
+
+# times COUNT WORD: the word so many times, a blank before each.
+times() { printf " $2%.0s" $(seq "$1"); }
+
+twice=02000000000a0000000a # B(10,10)
+six=02000000000600000010   # B(6,16)
+
+says 'one mover' '01000a0101 02000000000600000009 02000000000600000008' 'balance -2 10;moves 0 0 0;moves 1 1 0'
+says 'even movers' "01000a0202 $six $six $six 02010000000800000000" 'balance -6 20;moves 0 1 0;moves 1 2 0;moves 2 2 0;moves 3 0 0'
+says 'two cores of the first kind' "01000a0201$(times 3 02010000000600000000)" 'balance 2 10;moves 0 0 0;moves 1 0 1;moves 2 0 0'
+says 'two cores of the second kind' "01000a0102$(times 3 02020000000000000006)" 'balance 10 2;moves 0 0 0;moves 1 0 1;moves 2 0 0'
+says '64 jobs' "01000a0808$(times 64 02020000000000000001)" "balance 80 16$(for ((i = 0; i < 64; i++)); do printf ';moves %d 0 0' "$i"; done)"
+says 'no jobs' 01000a0101 'balance 10 10'
+
+says 'no room on the first kind' "01000a0101 $twice $twice $twice" 'balance -20 10;refused 6 0'
+says 'no room for a stretched job' "01000a0202 $six $six $six 02010000000900000000" 'balance -7 20;refused 6 0'
+says 'no room on either' '01000a0101 02010000000600000000 02010000000600000000 02020000000000000007 02020000000000000007' 'balance -2 -4;refused 6 0'
+
+says 'a window of 0' "0100000101 $six" 'refused 1 0'
+says 'nine cores' "01000a0109 $six" 'refused 2 0'
+says '65 jobs' "01000a0808$(times 65 02020000000000000001)" 'refused 3 64'
+says 'a cost of 0' "01000a0101 $six 02010000000000000000" 'refused 4 1'
+says 'a cost above the window' "01000a0101 $six $six 02010000000b00000000" 'refused 5 2'
+says 'an odd digit' "01000a0101 $six 0" 'refused 8 3'
+says 'an unknown record' '01000a0101 03' 'refused 9 2'
+says 'a second board' '01000a0101 01000a0101' 'refused 10 2'
+says 'no text' '' 'refused 10 1'
+says 'a long text' "$(times 4097 0 | tr -d ' ')" 'refused 8 0'
+
+"${run[@]}" <. >"$out" 2>"$err"
+is 'a directory for input' "$?" '' $'facts: the input cannot be read\n'
+
+echo "$seen answers"
+exit $bad
