@@ -4,7 +4,6 @@
 --   lowest-is      the lowest job of which a fact holds is the lowest that the test refuses, and lowest-of: the other way round
 --   none-lowest    where the fact holds of no job, the test refuses none, and none-of: the other way round
 --   plan-listed    a refusal of the plan is listed, with its place and its cause
---   lawful-legal   a lawful set passes the checks
 --   listed-plan    what is listed is the refusal of the plan
 --   short-tables, lawful-left   tables that are refused may be too short, and a lawful set is refused for room or for such tables
 use mathlib.Core.Path.{_≡_, refl, _∙_}
@@ -30,7 +29,7 @@ use Rattle.model.proofs.Splits.{do-length}
 use Rattle.legal.specs.Lawful.{LegalJob, Lawful}
 use Rattle.legal.specs.Legal.{outside, badCost, tooLong, failsOf, lowest, legalOf}
 use Rattle.legal.specs.declared.Test.the-variants.{Cost, Long}
-use Rattle.legal.proofs.Lawful.{legal-lawful}
+use Rattle.legal.proofs.Lawful.{legal-lawful, lawful-legal}
 use Rattle.slices.specs.Table.{tableOf}
 use Rattle.split.specs.Promise.{Accepted}
 use Rattle.split.specs.Steps.{hereSum, thereSum}
@@ -249,18 +248,8 @@ module _ (board : Board) (js : List Job) where
   sound-legal sound =
       rw (untold (outside-tells windowMost (board .window)) (sound .window), untold cores-tell (⊎-elim (sound .first) (sound .second)))
 
-  lawful-legal : Lawful board (length js) js → legalOf board (length js) js ≡ given tt
-  lawful-legal law =
-      sound-legal (lawful-sound law) ∙
-      rw (
-        le-ltb jobsMost (length js) (law .few),
-        none-lowest _ BadCost cost-tells js (lawful-costs law),
-        none-lowest _ (TooLong (board .window)) (long-tells (board .window)) js (lawful-short law),
-        le-ltb (length js) (length js) (omega arith),
-      )
-
   steps-accepted : (ss : List Share) → Lawful board (length js) js → stepsOn board js ≡ given ss → Accepted board js ss
-  steps-accepted ss law is = shares-accepted board (length js) js (rw (lawful-legal law) is)
+  steps-accepted ss law is = shares-accepted board (length js) js (rw (lawful-legal board (length js) js law) is)
 
   module _ (m k : ℕ) where
     pub short-tables : (ss : List Share) → Lawful board (length js) js → stepsOn board js ≡ given ss
@@ -288,10 +277,10 @@ module _ (board : Board) (js : List Job) where
           lowest-is _ (TooLong (board .window)) (long-tells (board .window)) js job low,
           lt-ltb job (length js) (low .there),
         ))
-    listed-plan (room law is) = rw (lawful-legal law, is)
+    listed-plan (room law is) = rw (lawful-legal board (length js) js law, is)
     listed-plan (space ss law is cause) =
         rw (
-          lawful-legal law,
+          lawful-legal board (length js) js law,
           is,
           told (or-tells (less-tells m (length ss)) (less-tells k (length (tableOf (board .window) ss))))
               (rw (do-length (board .window) 1 js ss (steps-accepted ss law is .whole .does)) cause),
