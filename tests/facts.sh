@@ -1,8 +1,10 @@
 #!/usr/bin/env bash
 # The program `facts`, as built by `rt check`: the starting balance and the moves, or the refusal, of some sets; and that it never says `lent wrong`, which
-# it would where the lent call kept to other rows, or gave other moves, than it should. A row is a set's lines and the lines to be said of it.
+# it would where the lent call kept to other rows, or gave other moves, than it should. First a table: a row is a set's lines and the lines to be said of
+# it. Then many texts, of which the second planner says the same.
 set -u -o pipefail
 cd "$(dirname "$0")/.." || exit 2
+. tools/x86-64.sh
 bad=0
 seen=0
 made=$(mktemp -d)
@@ -59,6 +61,26 @@ says 'a long text' "$(times 4097 0 | tr -d ' ')" 'refused 8 0'
 
 "${run[@]}" <. >"$out" 2>"$err"
 is 'a directory for input' "$?" '' $'facts: the input cannot be read\n'
+
+# each piece that cannot be written is complained of
+"${run[@]}" <<<01000a0101 >/dev/full 2>"$err"
+status=$?
+: >"$out"
+sort -u -o "$err" "$err"
+is 'full output' "$status" '' $'facts: the answer cannot be written\n'
+
+# compared LEAST FAMILY..: the second planner says the same of each text of a family, of which there are some at the least.
+compared() {
+    local counts
+    counts=$(second/target/release/second compare-facts "${@:2}" -- "${loader[@]}" target/bin/facts) || { bad=1 && return; }
+    [[ $counts =~ ^texts\ ([0-9]+) ]] && [ "${BASH_REMATCH[1]}" -ge "$1" ] || { echo "${*:2}: fewer than $1 texts" && bad=1 && return; }
+    seen=$((seen + BASH_REMATCH[1]))
+}
+
+quietly cargo build --release --offline --quiet --manifest-path second/Cargo.toml || exit
+compared 54 named
+compared 1988 --every 61 small
+compared 3000 gen 1 3000
 
 echo "$seen answers"
 exit $bad

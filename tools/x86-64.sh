@@ -1,5 +1,5 @@
 # For scripts that run or build x86-64 programs; they source it from the top of the repository. `emulator` is the words that run such a program,
-# none on x86-64 itself, and `toolchain` the kit's folder with its C library. On another processor the emulator is the kit's own, and `cc`, `cxx` and
+# none on x86-64 itself, `toolchain` the kit's folder with its C library, and `loader` the words before a program that rt built. On another processor the emulator is the kit's own, and `cc`, `cxx` and
 # `nm` are Debian's for x86-64.
 machine=$(uname -m)
 kit=$(dirname "$(dirname "$(rt doc)")")
@@ -7,6 +7,7 @@ toolchain=$kit/on/$machine/toolchain
 [ -d "$toolchain" ] || toolchain=$kit/toolchain
 emulator=$toolchain/bin/qemu-x86_64
 [ -x "$emulator" ] || emulator=
+loader=($emulator "$toolchain/lib/ld-linux-x86-64.so.2" --library-path "$toolchain/lib")
 if [ "$machine" = x86_64 ]; then
     cc=cc cxx=c++ nm=nm compilers=(gcc g++ libc6-dev)
 else

@@ -32,8 +32,11 @@ struct Lent {
     slices: [Slice; SLICES_MOST],
 }
 
+// Where a piece cannot be written it says so, once for each piece.
 fn put(text: &[u8]) {
-    streams::write_output(text);
+    if !streams::write_output(text) {
+        streams::complain(b"facts: the answer cannot be written\n");
+    }
 }
 
 fn put_number(n: u64) {
