@@ -20,7 +20,7 @@ extern "C" {
  *   out, out_len     where the answer goes: the lines of the plan, or the one line of a refusal. No zero byte is written at its end.
  *
  * Returns how many bytes of `out` were written, from its start; the bytes after them stay as they were. Returns 0 only where `out` is shorter
- * than the answer, and then no byte of it has changed. An accepted and a refused set both give a count above 0: they are told apart by the
+ * than the answer (refusal 7, place 0), and then no byte of it has changed. An accepted and a refused set both give a count above 0: they are told apart by the
  * first two bytes, "10" for a plan and "1f" for a refusal.
  *
  * As everywhere in C, each pointer must point at as many bytes as its length says, must not be null (even with a length of 0), and the two

@@ -34,7 +34,7 @@ pub record Reached (text : List ℕ) (i : ℕ) : Type 0 where
   pub before : (k : ℕ) → k < i → 1 ≤ k → Good text k
 
 pub data TextListed (text : List ℕ) : (number place : ℕ) → Type 0 where
-  -- 8: more bytes than a text may have, before any line; or a line with no digits, an odd number of them, or a byte that is no digit.
+  -- 8: more bytes than a text may have, before any line; or a line that spells no bytes.
   over : textMost < length text → TextListed text 8 0
   digits : (i : ℕ) → Reached text i → bytesOf (lineAt text i) ≡ none → TextListed text 8 i
   -- 9: a record that is none of an input's.

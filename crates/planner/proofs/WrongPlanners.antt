@@ -157,7 +157,7 @@ refuses-everything f refuses meets =
     let z : _≡_ {A = ℕ} 0 1 = cc in
     omega arith
 
--- ---- One that gives one plan for all sets.
+-- ---- The same plan whatever the set.
 pub one-plan : (f : Planner)
     → ((board : Board) (js ks : List Job) (ss : List Share) (ls : List Slice) → f board js ss ls ≡ f board ks ss ls) → Meets f → ⊥
 one-plan f same meets =
@@ -194,7 +194,7 @@ no-slices-written f kept meets =
     let e = ap (λ (ls : List Slice). getD ls 0 noSlice .length) (kept tiny (first ∷ []) shares slices) in
     omega arith
 
--- ---- One that places the first job and fills the other rows of a plan with copies.
+-- ---- Every row a copy of the first.
 pub copied-shares : (f : Planner)
     → ((board : Board) (js : List Job) (ss : List Share) (ls : List Slice) (jobs rows i : ℕ) → f board js ss ls .answer ≡ Counted jobs rows → i < jobs
     → getD (f board js ss ls .shares) i (share 0 0) ≡ getD (f board js ss ls .shares) 0 (share 0 0))
@@ -221,7 +221,7 @@ copied-slices f copies meets =
     let z : _≡_ {A = ℕ} 0 1 = cc in
     omega arith
 
--- ---- One that reports an invented number of slices: another than the length of the table of the rules.
+-- ---- A count of slices that is not the length of the rules' table.
 pub invented-count : (f : Planner) (board : Board) (js : List Job) (ss : List Share) (ls : List Slice) (jobs rows : ℕ)
     → f board js ss ls .answer ≡ Counted jobs rows → (rows ≡ length (slicesIn (planOf board (length js) js (length ss) (length ls))) → ⊥) → Meets f → ⊥
 invented-count f board js ss ls jobs rows is wrong meets =

@@ -1,5 +1,5 @@
 // The table of slices of shares that fit a board, by the order and the cuts of document 01's "The slices".
-// Each kind is packed in three passes over the jobs: even movers, the other mover, and the jobs with a share on this kind alone.
+// Each kind is packed in three passes over the jobs: the even movers, the mover that is not even, and those that are on this kind only.
 ghost use mathlib.Core.Path.{_≡_};
 ghost use Prim.Native.Nat.{_+_, _-_, _≤_};
 ghost use lib.ListN.{take};

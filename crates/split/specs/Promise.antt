@@ -27,6 +27,7 @@ use Rattle.split.specs.declared.Shared.{Shared}
 abbrev pub stretchedOn : Board → List Job → Kind → ℕ
 stretchedOn board js k = sumOf (stretchedAt k (board .window)) js
 
+-- Where there are more such jobs than ticks the room is 0. That allows more than a room below 0 would, so that it has no split says more.
 abbrev pub smaller : Board → List Job → Kind → ℕ
 smaller board js k = roomOf board k - stretchedOn board js k
 
