@@ -2,9 +2,7 @@
 //
 // It plans by the lent call, into tables that hold marks, and looks at every row after the call: with tables longer than the plan, exactly as long,
 // and each in turn a row too short. What it finds wrong it says in a last line. The promises of `planner` say that it never does; here they are run.
-ghost use mathlib.Core.Path.{_≡_};
 ghost use Prim.Native.Nat.{_≤_};
-ghost use lib.IntN.{natAbs};
 ghost use Rattle.model.specs.Limits.{jobsMost, slicesMost};
 use model::Board;
 use model::FirstTicks;
@@ -45,18 +43,11 @@ fn put_number(n: u64) {
     put(&digits[..count]);
 }
 
-// The size of a number, without its sign. That of one below zero is counted from −1, since the size of the lowest number is none of its type.
-fn size_of(n: i64) -> u64
-    ensures { λ r. ⌜ r ≡ natAbs n ⌝ }
-{
-    if n < 0 { (-1 - n) as u64 + 1 } else { n as u64 }
-}
-
 fn put_signed(n: i64) {
     if n < 0 {
         put(b"-");
     }
-    put_number(size_of(n));
+    put_number(streams::size_of(n));
 }
 
 fn put_refused(refusal: Refusal) {

@@ -1,7 +1,5 @@
 // Runs the split on the sets of document 01 and on the Table I of source document 003, and on sets that every check refuses. A line each:
 // the starting balance of the two kinds, then the shares, or the refusal's number and place.
-ghost use mathlib.Core.Path.{_≡_};
-ghost use lib.IntN.{natAbs};
 use libc::STDOUT_FILENO;
 use model::Board;
 use model::FirstTicks;
@@ -69,18 +67,11 @@ fn put_shares(shares: [Share; JOBS_MOST], n: usize) {
     }
 }
 
-// The size of a number, without its sign. That of one below zero is counted from −1, since the size of the lowest number is none of its type.
-fn size_of(n: i64) -> u64
-    ensures { λ r. ⌜ r ≡ natAbs n ⌝ }
-{
-    if n < 0 { (-1 - n) as u64 + 1 } else { n as u64 }
-}
-
 fn put_signed(n: i64) {
     if n < 0 {
         put(b"-");
     }
-    put_number(size_of(n));
+    put_number(streams::size_of(n));
 }
 
 // The starting balance, where there is one.

@@ -1,6 +1,8 @@
 // The standard input and output of our programs, over the C library's read and write. A read that failed is told from the end of the input, and
 // a write that moved a part or failed from one that moved all. No contract can say which bytes were read or written. What is proved: each function
 // is safe and ends, a count lies within its buffer, and no answer below 0 says the end (`call_of`). What the loops make of that tests/plan.sh tries.
+ghost use mathlib.Core.Path.{_≡_};
+ghost use lib.IntN.{natAbs};
 ghost use Rattle.streams.specs.Call.{Said};
 ghost use Rattle.streams.specs.Input.{Held};
 use libc::EINTR;
@@ -83,4 +85,11 @@ fn call_of(got: isize, spare: usize) -> Call
     } else {
         Call::Failed
     }
+}
+
+// The size of a number, without its sign, for who writes it in digits. That of one below zero is counted from −1, since the size of the lowest number is none of its type.
+pub fn size_of(n: i64) -> u64
+    ensures { λ r. ⌜ r ≡ natAbs n ⌝ }
+{
+    if n < 0 { (-1 - n) as u64 + 1 } else { n as u64 }
 }

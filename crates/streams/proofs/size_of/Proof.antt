@@ -1,9 +1,9 @@
--- `facts::size_of` meets its contract, by the laws of `split` on signed numbers (`Signed.antt`). Assumes nothing.
+-- `streams::size_of` meets its contract, by the laws of signed numbers (`Signed.antt`). Assumes nothing.
 use native.Mathlib.Omega.{arith}
 use borrow.Author.Needs.{needs}
-use Rattle.split.proofs.Signed.{Below, below, not-below}
-use Rattle.facts.proofs.size_of.Statement.{statement}
-use Rattle.facts.proofs.size_of.Tie as tie
+use Rattle.streams.proofs.Signed.{Below, below, not-below}
+use Rattle.streams.proofs.size_of.Statement.{statement}
+use Rattle.streams.proofs.size_of.Tie as tie
 
 sub-result : tie.Need-sub-result
 sub-result c = below (c .before .args .n) (c .before .fits .n) (c .if1 .taken) .fits
