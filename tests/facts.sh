@@ -5,25 +5,8 @@
 set -u -o pipefail
 cd "$(dirname "$0")/.." || exit 2
 . tools/x86-64.sh
-bad=0
-seen=0
-made=$(mktemp -d)
-trap 'rm -rf "$made"' EXIT
-out=$made/out
-err=$made/err
-run=(timeout 60 tools/run facts)
-
-# is NAME STATUS WANT COMPLAINT: the program ended with status 0, and wrote exactly this to standard output and exactly that to standard error.
-is() {
-    seen=$((seen + 1))
-    if [ "$2" != 0 ] || ! printf %s "$3" | cmp -s - "$out" || ! printf %s "$4" | cmp -s - "$err"; then
-        printf '%s: status %s, answer:\n' "$1" "$2"
-        cat "$out"
-        printf 'standard error:\n'
-        cat "$err"
-        bad=1
-    fi
-}
+program=facts
+. tools/answers.sh
 
 # says NAME SET WANT: what it says of a set. Lines are written with a blank between them in a set, and a semicolon in what is said.
 says() {
@@ -65,7 +48,6 @@ is 'a directory for input' "$?" '' $'facts: the input cannot be read\n'
 # each piece that cannot be written is complained of
 "${run[@]}" <<<01000a0101 >/dev/full 2>"$err"
 status=$?
-: >"$out"
 sort -u -o "$err" "$err"
 is 'full output' "$status" '' $'facts: the answer cannot be written\n'
 

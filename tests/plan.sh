@@ -6,29 +6,13 @@ set -u -o pipefail
 cd "$(dirname "$0")/.." || exit 2
 . tools/x86-64.sh
 c_preload streams || exit
-bad=0
-made=$(mktemp -d)
-trap 'rm -rf "$made"' EXIT
-out=$made/out
-err=$made/err
-run=(timeout 60 tools/run plan)
+program=plan
+. tools/answers.sh
 preloaded=(timeout 60 tools/run --preload target/c/streams.so plan)
 example=$'01000a0101\n02000000000600000009\n02000000000600000008\n'
 plan=$'100203\n110000060000\n110100040003\n1201010000000004\n1200010000040006\n1201020000070003\n'
 unread=$'plan: the input cannot be read\n'
 unwritten=$'plan: the answer cannot be written\n'
-
-# is NAME STATUS WANT COMPLAINT: the program ended with status 0, and wrote exactly this to standard output and exactly that to standard error.
-is() {
-    if [ "$2" != 0 ] || ! printf %s "$3" | cmp -s - "$out" || ! printf %s "$4" | cmp -s - "$err"; then
-        printf '%s: status %s, answer:\n' "$1" "$2"
-        cat "$out"
-        printf 'standard error:\n'
-        cat "$err"
-        bad=1
-    fi
-    : >"$out"
-}
 
 # answers NAME WANT COMMAND..: what it answers to the command's output.
 answers() {
@@ -154,4 +138,5 @@ fi
 status=$?
 is 'killed half-way' "$((status == 137 ? 0 : 1))" '' ''
 
+echo "$seen answers"
 exit $bad
