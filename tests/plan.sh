@@ -26,23 +26,39 @@ treated() {
     is "$1" "${PIPESTATUS[1]}" "$2" "$3"
 }
 
-# unwaiting NAME WANT COMPLAINT COMMAND..: what it answers to the command's output through a pipe that does not wait. It is started when the command's
-# first piece is there.
+# with_pipe: a new pipe, with descriptor 8 to write to it and 7 to read from it. Nothing here waits for the other end, and it ends once 8 is closed.
+with_pipe() {
+    rm -f "$made/pipe"
+    mkfifo "$made/pipe" && exec 8<>"$made/pipe" 7<"$made/pipe"
+}
+
+# unwaiting NAME WANT COMPLAINT BYTES [MORE]: what it answers to bytes in a pipe that does not wait; with MORE, there is more to come.
 unwaiting() {
-    "${@:4}" | (sleep 0.5 && NONBLOCKING=1 "${preloaded[@]}") >"$out" 2>"$err"
-    is "$1" "${PIPESTATUS[1]}" "$2" "$3"
+    local status
+    with_pipe
+    printf %s "$4" >&8
+    [ -n "${5:-}" ] || exec 8>&-
+    NONBLOCKING=1 "${preloaded[@]}" <&7 7<&- 8>&- >"$out" 2>"$err"
+    status=$?
+    exec 7<&- 8>&-
+    is "$1" "$status" "$2" "$3"
 }
 
 # signalled NAME SIGNAL..: it answers the example, and the signals that it gets while it waits for the second half change nothing.
 signalled() {
     local process signal
-    CATCHING=1 tools/run --preload target/c/streams.so plan < <(halves 3) >"$out" 2>"$err" &
+    with_pipe
+    printf %s "${example:0:32}" >&8
+    CATCHING=1 tools/run --preload target/c/streams.so plan <&7 7<&- 8>&- >"$out" 2>"$err" &
     process=$!
+    exec 7<&-
     sleep 1
     for signal in "${@:2}"; do
         kill -s "$signal" "$process"
         sleep 0.1
     done
+    printf %s "${example:32}" >&8
+    exec 8>&-
     wait "$process"
     is "$1" "$?" "$plan" ''
 }
@@ -57,13 +73,6 @@ pieces() {
         printf %s "${example:at:9}"
         sleep 0.1
     done
-}
-
-# halves SECONDS: the board and the first job, and after a pause the second job.
-halves() {
-    printf %s "${example:0:32}"
-    sleep "$1"
-    printf %s "${example:32}"
 }
 
 answers 'the whole example' "$plan" printf %s "$example"
@@ -96,8 +105,8 @@ is 'closed input' "$?" '' "$unread"
 : >"$err"
 "${run[@]}" <. >"$out" 2>&-
 is 'a directory for input, closed standard error' "$?" '' ''
-unwaiting 'two pieces through a pipe that does not wait' '' "$unread" halves 2
-unwaiting 'all of it in a pipe that does not wait' "$plan" '' printf %s "$example"
+unwaiting 'two pieces through a pipe that does not wait' '' "$unread" "${example:0:32}" more
+unwaiting 'all of it in a pipe that does not wait' "$plan" '' "$example"
 
 # no more than 1,000 interrupted calls are borne
 treated 'interrupted reads' "$plan" '' i1i1ii1i ''
