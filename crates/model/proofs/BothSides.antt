@@ -8,6 +8,7 @@
 --   Does                  work, window, the other kind; in whole ticks and in fifths
 --   Do                    a share for each job                  Whole, Split       rooms exactly full, some, what fractions add
 --   isMover, isEven, movers, unevens
+--   costs, jobsIn, seen   each way to be a job, and what is written as 0 and 0    packOf, sliceIn    each byte at its limit
 -- Assumes nothing.
 use mathlib.Core.Bool.{true, false}
 use mathlib.Core.List.{List, [], _∷_, map}
@@ -17,6 +18,8 @@ use native.Mathlib.Omega.{arith}
 use lib.ListN.{getD}
 use Rattle.model.specs.Limits.{windowMost, coresMost, jobsMost, costMost, slicesMost, textMost}
 use Rattle.model.specs.Board.{coresOf, roomOf}
+use Rattle.model.specs.Columns.{jobAt, jobsIn, costOn, seen, first, second, both}
+use Rattle.model.specs.Packed.{packOf, sliceIn}
 use Rattle.model.specs.Movers.{isMover, isEven, movers, unevens}
 use Rattle.model.specs.Split.{share, ticksOn, Does, Do, ticksOf, Split, Whole}
 use Rattle.model.specs.Timetable.{Runs, Apart, SameCore, Inside, ticksIn, Timetable}
@@ -354,3 +357,43 @@ movers-counted = refl
 
 pub unevens-counted : unevens 10 (share 4 6 ∷ share 4 5 ∷ share 0 10 ∷ share 9 0 ∷ share 4 7 ∷ share 0 0 ∷ []) ≡ 2
 unevens-counted = refl
+
+-- ==== Columns
+abbrev jobs-in-columns : List Job
+jobs-in-columns = both 6 9 ∷ first 5 ∷ second 7 ∷ both 0 9 ∷ both 6 0 ∷ second 0 ∷ []
+
+pub costs-first : map (costOn First) jobs-in-columns ≡ 6 ∷ 5 ∷ 0 ∷ 0 ∷ 0 ∷ 0 ∷ []
+costs-first = refl
+
+pub costs-second : map (costOn Second) jobs-in-columns ≡ 9 ∷ 0 ∷ 7 ∷ 0 ∷ 0 ∷ 0 ∷ []
+costs-second = refl
+
+-- The first three are themselves; the others cost nothing, as refusal 4 wants it.
+pub jobs-seen : map seen jobs-in-columns ≡ both 6 9 ∷ first 5 ∷ second 7 ∷ first 0 ∷ first 0 ∷ first 0 ∷ []
+unfolding jobAt
+jobs-seen = refl
+
+pub jobs-read : jobsIn 2 (6 ∷ 0 ∷ 3 ∷ []) (9 ∷ 7 ∷ 3 ∷ []) ≡ both 6 9 ∷ second 7 ∷ []
+unfolding jobAt
+jobs-read = refl
+
+-- ==== Slices as numbers
+abbrev wide : Kind → Slice
+wide k = record { job = 255; kind = k; core = 255; start = 65535; length = 65535 }
+
+pub packed-300 : packOf (record { job = 1; kind = Second; core = 2; start = 3; length = 300 }) ≡ 329853538796033
+unfolding packOf
+packed-300 = refl
+
+pub packed-widest : sliceIn (packOf (wide First)) ≡ wide First
+unfolding packOf sliceIn
+packed-widest = refl
+
+pub packed-widest-second : sliceIn (packOf (wide Second)) ≡ wide Second
+unfolding packOf sliceIn
+packed-widest-second = refl
+
+-- One tick more than two bytes say is lost, which is why `Narrow` is asked.
+pub packed-wider-not : sliceIn (packOf (record { job = 0; kind = First; core = 0; start = 0; length = 65536 })) .length ≡ 0
+unfolding packOf sliceIn
+packed-wider-not = refl

@@ -1,8 +1,10 @@
 pub mod BothSides
+pub mod Columns
 pub mod Determined
 pub mod Fields
 pub mod Lists
 pub mod Movers
+pub mod Packed
 pub mod Product
 pub mod Splits
 pub mod Walk

@@ -5,3 +5,5 @@ pub mod Refusal
 pub mod Split
 pub mod Movers
 pub mod Timetable
+pub mod Columns
+pub mod Packed

@@ -1,0 +1,35 @@
+-- A slice whose fields have their bytes is the slice of its number: each field is one of the number's digits, of one byte or two. Assumes nothing.
+use mathlib.Core.Path.{_≡_, refl}
+use Prim.Native.Nat.{ℕ, _+_, _*_, _/_, _%_, _<_}
+use native.Mathlib.Omega.{arith}
+use Rattle.model.specs.Board.{on}
+use Rattle.model.specs.Packed.{packOf, kindOf, sliceIn, Narrow}
+use Rattle.model.specs.declared.Kind.{Kind}
+use Rattle.model.specs.declared.Kind.the-variants.{First, Second}
+use Rattle.model.specs.declared.Slice.{Slice}
+
+module _ (s : Slice) (n : Narrow s) (k : ℕ) (k-fits : k < 256) where
+  abbrev number : ℕ
+  number = s .job + 256 * k + 65536 * s .core + 16777216 * s .start + 1099511627776 * s .length
+
+  digits : (kindOf k ≡ s .kind) → sliceIn number ≡ s
+  unfolding sliceIn
+  digits e =
+      let job : number % 256 ≡ s .job = omega (arith, n .job) in
+      let above-job : number / 256 ≡ k + 256 * s .core + 65536 * s .start + 4294967296 * s .length = omega (arith, n .job) in
+      let kind : number / 256 % 256 ≡ k = rw above-job (omega arith) in
+      let above-kind : number / 65536 ≡ s .core + 256 * s .start + 16777216 * s .length = omega (arith, n .job) in
+      let core : number / 65536 % 256 ≡ s .core = rw above-kind (omega (arith, n .core)) in
+      let above-core : number / 16777216 ≡ s .start + 65536 * s .length = omega (arith, n .job, n .core) in
+      let start : number / 16777216 % 65536 ≡ s .start = rw above-core (omega (arith, n .start)) in
+      let above-start : number / 1099511627776 ≡ s .length = omega (arith, n .job, n .core, n .start) in
+      let length : number / 1099511627776 % 65536 ≡ s .length = rw above-start (omega (arith, n .length)) in
+      rw (job, kind, core, start, length, e)
+
+pub packed-back : (s : Slice) → Narrow s → sliceIn (packOf s) ≡ s
+unfolding packOf
+packed-back s n = go (s .kind) refl
+  where
+    go : (k : Kind) → s .kind ≡ k → sliceIn (s .job + 256 * on k 1 2 + 65536 * s .core + 16777216 * s .start + 1099511627776 * s .length) ≡ s
+    go First e = digits s n 1 (omega arith) (rw e)
+    go Second e = digits s n 2 (omega arith) (rw e)

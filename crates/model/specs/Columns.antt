@@ -1,0 +1,68 @@
+-- Columns of numbers, in which the calls between our crates pass jobs and shares, and the jobs and shares that they are. A column is read by `at`,
+-- which has 0 past a column's end; no call looks there.
+--   upto       the list of a function's values at 0 to n - 1
+--   at         what a column has at a place
+--   jobAt      a job of its two costs, with 0 where a kind is not allowed; jobsIn, of columns
+--   costOn     what a column has of a job: its cost on the kind, and 0 where it is not allowed there or where its other cost is 0
+--   costs      the column of a kind: a cost for each job, and 0 behind
+--   seen       the job that its two costs in columns are
+--   sharesIn   the shares that two columns of ticks are
+--   ticks      the column of a kind: the ticks of each share, and 0 behind
+-- A job on both kinds that has a cost of 0 is none that two costs can say: it is written as 0 and 0, the job on the first kind that costs
+-- nothing. Refusal 4 refuses both at the same place, and every other job is the one that its columns say (crate legal, proofs/Seen.antt).
+-- Assumes nothing.
+use mathlib.Core.Bool.{cond}
+use mathlib.Core.List.{List, [], _∷_, _++_, map}
+use Prim.Native.Nat.{ℕ, zero, suc, _-_}
+use lib.Dec.{eqb}
+use lib.ListN.{length, getD, replicate}
+use Rattle.model.specs.Limits.{jobsMost}
+use Rattle.model.specs.Split.{share, ticksOn}
+use Rattle.model.specs.declared.Kind.{Kind}
+use Rattle.model.specs.declared.Kind.the-variants.{First, Second}
+use Rattle.model.specs.declared.Job.{Job}
+use Rattle.model.specs.declared.Job.the-variants.{Both, OnlyFirst, OnlySecond}
+use Rattle.model.specs.declared.Share.{Share}
+
+abbrev pub upto : {A : Type 0} → ℕ → (ℕ → A) → List A
+upto zero f = []
+upto (suc n) f = f 0 ∷ upto n (λ i. f (suc i))
+
+abbrev pub at : List ℕ → ℕ → ℕ
+at xs i = getD xs i 0
+
+abbrev pub first : ℕ → Job
+first a = OnlyFirst (record { 0 = a })
+
+abbrev pub second : ℕ → Job
+second b = OnlySecond (record { 0 = b })
+
+abbrev pub both : ℕ → ℕ → Job
+both a b = Both (record { 0 = a }) (record { 0 = b })
+
+unfoldable pub jobAt : (c1 c2 : ℕ) → Job
+jobAt a b = cond (eqb b 0) (first a) (cond (eqb a 0) (second b) (both a b))
+
+abbrev pub jobsIn : ℕ → (c1 c2 : List ℕ) → List Job
+jobsIn n c1 c2 = upto n (λ i. jobAt (at c1 i) (at c2 i))
+
+abbrev pub costOn : Kind → Job → ℕ
+costOn First (Both a b) = cond (eqb (b .0) 0) 0 (a .0)
+costOn Second (Both a b) = cond (eqb (a .0) 0) 0 (b .0)
+costOn First (OnlyFirst a) = a .0
+costOn Second (OnlyFirst a) = 0
+costOn First (OnlySecond b) = 0
+costOn Second (OnlySecond b) = b .0
+
+-- At most jobsMost jobs stand in a column: who fills one has refused more.
+abbrev pub costs : Kind → List Job → List ℕ
+costs k js = map (costOn k) js ++ replicate (jobsMost - length js) 0
+
+abbrev pub seen : Job → Job
+seen j = jobAt (costOn First j) (costOn Second j)
+
+abbrev pub sharesIn : ℕ → (s1 s2 : List ℕ) → List Share
+sharesIn n s1 s2 = upto n (λ i. share (at s1 i) (at s2 i))
+
+abbrev pub ticks : Kind → List Share → List ℕ
+ticks k ss = map (ticksOn k) ss ++ replicate (jobsMost - length ss) 0
