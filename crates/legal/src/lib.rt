@@ -1,14 +1,13 @@
 // Which sets of jobs are legal: checks 1 to 5 of document 01, each over all jobs before the next, by number and place.
 ghost use mathlib.Core.Path.{_≡_};
 ghost use Prim.Native.Nat.{_≤_};
-ghost use lib.ListN.{take};
+ghost use Rattle.model.specs.Columns.{jobAt, jobsIn};
 ghost use Rattle.model.specs.Limits.{jobsMost};
 ghost use Rattle.legal.specs.Legal.{outside, badCost, tooLong, failsOf, lowest, legalOf, saysChecked};
 use model::Board;
 use model::CORES_MOST;
 use model::COST_MOST;
 use model::JOBS_MOST;
-use model::Job;
 use model::Refusal;
 use model::WINDOW_MOST;
 
@@ -34,57 +33,62 @@ fn is_outside(most: u32, x: u32) -> bool
     most < x
 }
 
-// Whether a cost on an allowed kind is out of range.
-fn bad_cost(job: Job) -> bool
-    ensures { λ r. ⌜ r ≡ badCost job ⌝ }
+// Whether a cost on an allowed kind is out of range. A job is its two costs, with 0 where a kind is not allowed.
+fn bad_cost(first: u32, second: u32) -> bool
+    ensures { λ r. ⌜ r ≡ badCost (jobAt first second) ⌝ }
 {
-    match job {
-        Job::Both(c1, c2) => {
-            if is_outside(COST_MOST, c1.0) {
-                return true;
-            }
-            is_outside(COST_MOST, c2.0)
-        }
-        Job::OnlyFirst(c1) => is_outside(COST_MOST, c1.0),
-        Job::OnlySecond(c2) => is_outside(COST_MOST, c2.0),
+    if second == 0 {
+        return is_outside(COST_MOST, first);
     }
+    if first == 0 {
+        return is_outside(COST_MOST, second);
+    }
+    if is_outside(COST_MOST, first) {
+        return true;
+    }
+    is_outside(COST_MOST, second)
 }
 
 // Whether every cost on an allowed kind is above the window.
-fn too_long(w: u32, job: Job) -> bool
-    ensures { λ r. ⌜ r ≡ tooLong w job ⌝ }
+fn too_long(w: u32, first: u32, second: u32) -> bool
+    ensures { λ r. ⌜ r ≡ tooLong w (jobAt first second) ⌝ }
 {
-    match job {
-        Job::Both(c1, c2) => {
-            if c1.0 <= w {
-                return false;
-            }
-            w < c2.0
-        }
-        Job::OnlyFirst(c1) => w < c1.0,
-        Job::OnlySecond(c2) => w < c2.0,
+    if second == 0 {
+        return w < first;
     }
+    if first == 0 {
+        return w < second;
+    }
+    if first <= w {
+        return false;
+    }
+    w < second
 }
 
 // Whether a job fails a check.
-fn fails(test: Test, w: u32, job: Job) -> bool
-    ensures { λ r. ⌜ r ≡ failsOf test w job ⌝ }
+fn fails(test: Test, w: u32, first: u32, second: u32) -> bool
+    ensures { λ r. ⌜ r ≡ failsOf test w (jobAt first second) ⌝ }
 {
     match test {
-        Test::Cost => bad_cost(job),
-        Test::Long => too_long(w, job),
+        Test::Cost => bad_cost(first, second),
+        Test::Long => too_long(w, first, second),
     }
 }
 
 // The lowest of the first `n` jobs that fails a check, and `n` where none does.
-fn lowest_failing(test: Test, w: u32, jobs: [Job; JOBS_MOST], n: usize) -> usize
+fn lowest_failing(
+    test: Test,
+    w: u32,
+    first: &[u32; JOBS_MOST],
+    second: &[u32; JOBS_MOST],
+    n: usize,
+) -> usize
     requires { ⌜ n ≤ jobsMost ⌝ }
-    ensures { λ r. ⌜ r ≡ lowest (failsOf test w) (take n jobs) ⌝ }
+    ensures { λ r. ⌜ r ≡ lowest (failsOf test w) (jobsIn n (now (first .entry)) (now (second .entry))) ⌝ }
 {
     let mut i: usize = 0;
     while i < n {
-        let job = jobs[i];
-        if fails(test, w, job) {
+        if fails(test, w, first[i], second[i]) {
             return i;
         }
         i = i + 1;
@@ -92,9 +96,9 @@ fn lowest_failing(test: Test, w: u32, jobs: [Job; JOBS_MOST], n: usize) -> usize
     i
 }
 
-// Checks 1 to 5 of the first `n` of the jobs. More than 64 can be asked for, and are refused.
-pub fn check(board: Board, jobs: [Job; JOBS_MOST], n: usize) -> Checked
-    ensures { λ r. ⌜ saysChecked r ≡ legalOf board n (take n jobs) ⌝ }
+// Checks 1 to 5 of the first `n` jobs of the columns. More than 64 can be asked for, and are refused.
+pub fn check(board: Board, first: &[u32; JOBS_MOST], second: &[u32; JOBS_MOST], n: usize) -> Checked
+    ensures { λ r. ⌜ saysChecked r ≡ legalOf board n (jobsIn n (now (first .entry)) (now (second .entry))) ⌝ }
 {
     let w = board.window;
     if is_outside(WINDOW_MOST, w) {
@@ -109,11 +113,11 @@ pub fn check(board: Board, jobs: [Job; JOBS_MOST], n: usize) -> Checked
     if JOBS_MOST < n {
         return Checked::Refused(Refusal::Jobs);
     }
-    let bad = lowest_failing(Test::Cost, w, jobs, n);
+    let bad = lowest_failing(Test::Cost, w, first, second, n);
     if bad < n {
         return Checked::Refused(Refusal::Cost(bad as u8));
     }
-    let long = lowest_failing(Test::Long, w, jobs, n);
+    let long = lowest_failing(Test::Long, w, first, second, n);
     if long < n {
         return Checked::Refused(Refusal::Long(long as u8));
     }

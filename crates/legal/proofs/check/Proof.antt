@@ -1,10 +1,8 @@
 -- `legal::check` meets its contract: at each way out the tests before it are passed, and the laws of Turns say what the definition answers then.
 -- Assumes nothing.
-use mathlib.Core.Path.{_≡_, sym, _∙_}
-use native.Mathlib.Omega.{arith}
+use mathlib.Core.Path.{sym, _∙_}
 use borrow.Author.Needs.{needs}
-use lib.ListN.{length, take}
-use lib.Seq.{length-take-le}
+use Rattle.model.proofs.Columns.{upto-length}
 use Rattle.legal.proofs.Turns.{Passed, turn-window, turn-first, turn-second, turn-jobs, turn-cost, turn-long, turn-given}
 use Rattle.legal.proofs.check.Statement.{statement}
 use Rattle.legal.proofs.check.Tie as tie
@@ -49,49 +47,39 @@ passed c = record {
   second = sym (c .before .is-outside3 .ensures) ∙ c .if3 .left;
 }
 
--- after the test of the count there are as many jobs as are asked for
-abbrev At-few : Type 0
-At-few = lts.Else4 (is-outside-reads.Asked, is-outside-reads.Learnt, lowest-failing-reads.Asked, lowest-failing-reads.Learnt) reads.Pre reads.Post
-
-size : (c : At-few) → let a = c .before .before .before .before .before .before .before .args in length (take (a .n) (a .jobs)) ≡ a .n
-size c =
-    let a = c .before .before .before .before .before .before .before .args in
-    let full : length (a .jobs) ≡ 64 = search needs in
-    length-take-le (a .n) (a .jobs) (omega arith)
-
 returns-4 : tie.Need-returns-4
 returns-4 c = turn-jobs _ _ _ (passed (c .before)) (c .if4 .taken)
 
 lowest-failing-requires : tie.Need-lowest-failing-requires
 lowest-failing-requires c κs = search needs
 
-cast-t16 : tie.Need-cast-t16
-cast-t16 c = search needs
+cast-t17 : tie.Need-cast-t17
+cast-t17 c = search needs
 
 returns-5 : tie.Need-returns-5
 returns-5 c =
     let f = c .before .before in
-    turn-cost _ _ _ (passed (f .before)) (f .if4 .left) (size f)
+    turn-cost _ _ _ (passed (f .before)) (f .if4 .left) (upto-length _ _)
     (c .before .lowest-failing .ensures) (c .if5 .taken)
 
 lowest-failing-requires-2 : tie.Need-lowest-failing-requires-2
 lowest-failing-requires-2 c κs = search needs
 
-cast-t18 : tie.Need-cast-t18
-cast-t18 c = search needs
+cast-t19 : tie.Need-cast-t19
+cast-t19 c = search needs
 
 returns-6 : tie.Need-returns-6
 returns-6 c =
     let l = c .before .before in
     let f = l .before .before in
-    turn-long _ _ _ (passed (f .before)) (f .if4 .left) (size f)
+    turn-long _ _ _ (passed (f .before)) (f .if4 .left) (upto-length _ _)
     (l .before .lowest-failing .ensures) (l .if5 .left) (c .before .lowest-failing2 .ensures) (c .if6 .taken)
 
 returns-7 : tie.Need-returns-7
 returns-7 c =
     let l = c .before .before in
     let f = l .before .before in
-    turn-given _ _ _ (passed (f .before)) (f .if4 .left) (size f)
+    turn-given _ _ _ (passed (f .before)) (f .if4 .left) (upto-length _ _)
     (l .before .lowest-failing .ensures) (l .if5 .left) (c .before .lowest-failing2 .ensures) (c .if6 .left)
 
 pub check-spec : {M : Type 1} → statement M
@@ -106,9 +94,9 @@ check-spec =
     returns-3
     returns-4
     lowest-failing-requires
-    cast-t16
+    cast-t17
     returns-5
     lowest-failing-requires-2
-    cast-t18
+    cast-t19
     returns-6
     returns-7)
