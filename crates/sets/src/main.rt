@@ -5,9 +5,9 @@ use model::Board;
 use model::FirstTicks;
 use model::JOBS_MOST;
 use model::Job;
+use model::Kind;
 use model::Refusal;
 use model::SecondTicks;
-use model::Share;
 use split::Balanced;
 use split::Outcome;
 
@@ -48,20 +48,19 @@ fn put_refusal(refusal: Refusal) {
     put_number(model::place(refusal) as u64);
 }
 
-fn put_share(s: Share) {
+fn put_share(first: u16, second: u16) {
     put(b" (");
-    put_number(s.first.0 as u64);
+    put_number(first as u64);
     put(b",");
-    put_number(s.second.0 as u64);
+    put_number(second as u64);
     put(b")");
 }
 
-fn put_shares(shares: [Share; JOBS_MOST], n: usize) {
+fn put_shares(first: [u16; JOBS_MOST], second: [u16; JOBS_MOST], n: usize) {
     let mut i: usize = 0;
     while i < JOBS_MOST {
-        let s = shares[i];
         if i < n {
-            put_share(s);
+            put_share(first[i], second[i]);
         }
         i = i + 1;
     }
@@ -91,13 +90,16 @@ fn put_balance(balanced: Balanced) {
 // The line of a set of the first `n` jobs.
 fn show(board: Board, jobs: [Job; JOBS_MOST], n: usize) {
     put_balance(split::starting_balance(board, jobs, n));
-    let shared = split::split(board, jobs, n);
+    let costs1 = model::costs(Kind::First, jobs, n);
+    let costs2 = model::costs(Kind::Second, jobs, n);
+    let shared = split::split(board, &costs1, &costs2, n);
     let outcome = shared.outcome;
     match outcome {
         Outcome::Shares(count) => {
-            let shares = shared.shares;
+            let shares1 = shared.first;
+            let shares2 = shared.second;
             put(b"shares");
-            put_shares(shares, count);
+            put_shares(shares1, shares2, count);
         }
         Outcome::Refused(refusal) => put_refusal(refusal),
     }

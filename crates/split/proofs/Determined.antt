@@ -1,20 +1,27 @@
 -- The promises of this crate determine their results: each is taken back from what it says.
---   split ↦ split-once, of arrays of 64 rows, as all of the type are
+--   split ↦ split-once, of columns of 64 rows, as all of the type are
 --   starting_balance ↦ starting-balance-once
 -- Assumes nothing.
-use mathlib.Core.List.{List, _++_}
+use mathlib.Core.List.{List, [], _∷_, _++_}
 use mathlib.Core.Path.{_≡_, refl, sym, ap, _∙_}
-use Prim.Native.Nat.{ℕ, _-_, _≤_}
-use lib.ListN.{length, take, drop}
+use Prim.Native.Nat.{ℕ, zero, suc, _-_, _≤_}
+use native.Mathlib.Nat.{le-of-suc-le-suc}
+use native.Mathlib.Omega.{arith}
+use lib.ListN.{length, take, drop, replicate}
+use Rattle.model.specs.Board.{on}
+use Rattle.model.specs.Columns.{upto, at, sharesIn, ticks}
 use Rattle.model.specs.Limits.{jobsMost}
 use Rattle.model.specs.Refusal.{Answer}
-use Rattle.model.specs.Split.{share}
+use Rattle.model.specs.Split.{share, ticksOn}
 use Rattle.model.specs.declared.Board.{Board}
 use Rattle.model.specs.declared.Job.{Job}
 use Rattle.model.specs.declared.Share.{Share}
+use Rattle.model.specs.declared.Kind.{Kind}
+use Rattle.model.specs.declared.Kind.the-variants.{First, Second}
+use Rattle.model.proofs.Columns.{upto-length, upto-map}
 use Rattle.model.proofs.Determined.{Once, once, said-once, refusal-back, answerOf, rows-back}
 use Rattle.split.specs.Promise.{Promised}
-use Rattle.split.specs.Shares.{sharesOf, balanceOf, saysOutcome, rowsOf, zeros, none, saysBalanced}
+use Rattle.split.specs.Shares.{sharesOf, balanceOf, saysOutcome, rowsOf, none, saysBalanced}
 use Rattle.split.specs.declared.Balance.{Balance}
 use Rattle.split.specs.declared.Balanced.{Balanced}
 use Rattle.split.specs.declared.Balanced.the-variants.{Given, Unbalanced}
@@ -22,22 +29,42 @@ use Rattle.split.specs.declared.Outcome.{Outcome}
 use Rattle.split.specs.declared.Outcome.the-variants.{Shares, Refused}
 use Rattle.split.specs.declared.Shared.{Shared}
 
--- As many shares as are given, and zeros behind them.
+-- As many shares as are given, in columns with zeros behind them.
 abbrev sharedOf : Answer (List Share) → Shared
-sharedOf = answerOf (λ ss. record { outcome = Shares (length ss); shares = ss ++ zeros (jobsMost - length ss) }) none
+sharedOf = answerOf (λ ss. record { outcome = Shares (length ss); first = ticks First ss; second = ticks Second ss }) none
 
-shared-back : (o : Outcome) (ss : List Share) → length ss ≡ jobsMost → rowsOf o ≤ jobsMost → drop (rowsOf o) ss ≡ zeros (jobsMost - rowsOf o)
-    → sharedOf (saysOutcome o ss) ≡ record { outcome = o; shares = ss }
-shared-back (Shares n) ss full few rest =
-    let rows = rows-back ss n jobsMost (share 0 0) full few rest in
-    rw (rows .0, rows .1)
-shared-back (Refused r) ss full few rest = rw (refusal-back r, rest)
+-- The front of a column, from the shares.
+front-back : (n : ℕ) (s : List ℕ) → n ≤ length s → upto n (λ i. at s i) ≡ take n s
+front-back zero s h = refl
+front-back (suc n) [] h = absurd (omega arith)
+front-back (suc n) (x ∷ s) h = ap (λ (t : List ℕ). x ∷ t) (front-back n s (le-of-suc-le-suc h))
 
-pub split-once : (board : Board) (jobs : List Job) (n : ℕ)
-    → Once (λ (r : Shared). (length (r .shares) ≡ jobsMost) × Promised board n (take n jobs) r)
-split-once board jobs n =
-    once (sharedOf (sharesOf board n (take n jobs)))
-    (λ r p. let a = p .1 .answers in sym (shared-back (r .outcome) (r .shares) (p .0) (a .few) (a .rest)) ∙ ap sharedOf (a .says))
+module _ (n : ℕ) (s1 s2 : List ℕ) where
+  size : length (sharesIn n s1 s2) ≡ n
+  size = upto-length n (λ i. share (at s1 i) (at s2 i))
+
+  column-back : (kind : Kind) → length (on kind s1 s2) ≡ jobsMost → n ≤ jobsMost → drop n (on kind s1 s2) ≡ replicate (jobsMost - n) 0
+      → ticks kind (sharesIn n s1 s2) ≡ on kind s1 s2
+  column-back kind full few rest =
+      rw (size, upto-map (ticksOn kind) n (λ i. share (at s1 i) (at s2 i)))
+      (ap (λ (l : List ℕ). l ++ replicate (jobsMost - n) 0) (of-kind kind full) ∙ rows-back (on kind s1 s2) n jobsMost 0 full few rest .1)
+    where
+      of-kind : (k : Kind) → length (on k s1 s2) ≡ jobsMost → upto n (λ i. ticksOn k (share (at s1 i) (at s2 i))) ≡ take n (on k s1 s2)
+      of-kind First e = front-back n s1 (omega arith)
+      of-kind Second e = front-back n s2 (omega arith)
+
+shared-back : (o : Outcome) (s1 s2 : List ℕ) → length s1 ≡ jobsMost → length s2 ≡ jobsMost → rowsOf o ≤ jobsMost
+    → drop (rowsOf o) s1 ≡ replicate (jobsMost - rowsOf o) 0 → drop (rowsOf o) s2 ≡ replicate (jobsMost - rowsOf o) 0
+    → sharedOf (saysOutcome o s1 s2) ≡ record { outcome = o; first = s1; second = s2 }
+shared-back (Shares n) s1 s2 full1 full2 few rest1 rest2 =
+    rw (column-back n s1 s2 First full1 few rest1, column-back n s1 s2 Second full2 few rest2, size n s1 s2)
+shared-back (Refused r) s1 s2 full1 full2 few rest1 rest2 = rw (refusal-back r, rest1, rest2)
+
+pub split-once : (board : Board) (n : ℕ) (js : List Job)
+    → Once (λ (r : Shared). (length (r .first) ≡ jobsMost) × (length (r .second) ≡ jobsMost) × Promised board n js r)
+split-once board n js =
+    once (sharedOf (sharesOf board n js))
+    (λ r p. let a = p .2 .answers in sym (shared-back (r .outcome) (r .first) (r .second) (p .0) (p .1) (a .few) (a .rest1) (a .rest2)) ∙ ap sharedOf (a .says))
 
 abbrev balancedOf : Answer Balance → Balanced
 balancedOf = answerOf Given Unbalanced

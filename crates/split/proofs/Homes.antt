@@ -1,26 +1,25 @@
--- The jobs at home as rows: legal jobs are ready for the steps, and what the second kind sees here the first sees there.
--- With it, the tables of the code: the rows of n jobs at home, and what the steps make of them, with zeros behind. Assumes nothing.
-use mathlib.Core.Path.{_≡_, refl, _∙_}
+-- The jobs at home as rows: legal jobs are ready for the steps and fit the window, and what one kind sees here the other sees there.
+-- Assumes nothing.
+use mathlib.Core.Path.{_≡_, refl}
 use mathlib.Core.Bool.{Bool, true, false, false≢true}
-use mathlib.Core.List.{List, [], _∷_, _++_}
-use Prim.Native.Nat.{ℕ, zero, suc, _-_, _≤_, _<_}
+use mathlib.Core.List.{List, [], _∷_}
+use Prim.Native.Nat.{ℕ, zero, suc, _≤_, _<_}
 use native.Mathlib.Nat.{not-suc-le-zero, le-of-suc-le-suc}
 use native.Mathlib.Omega.{arith}
 use lib.Dec.{leb, ltb}
 use borrow.Author.Tests.{leb-true, leb-false, ltb-true, le-ltb, lt-ltb}
-use lib.ListN.{length, take, drop, replicate, length-map}
-use lib.Seq.{take-at, drop-at, length-take-le}
+use Rattle.model.specs.Columns.{at, jobAt, jobsIn}
 use Rattle.model.specs.Lists.{All}
 use Rattle.model.specs.declared.Kind.{Kind}
 use Rattle.model.specs.declared.Kind.the-variants.{First, Second}
 use Rattle.model.specs.declared.Job.{Job}
 use Rattle.model.specs.declared.Job.the-variants.{Both, OnlyFirst, OnlySecond}
+use Rattle.model.proofs.Columns.{upto-at, upto-length}
+use Rattle.model.proofs.Lists.{all-at}
 use Rattle.legal.specs.Lawful.{LegalJob}
 use Rattle.split.specs.Home.{atHome, bothRow}
-use Rattle.split.specs.Steps.{thereSum, noRow, stepsOf, Movable, Ready}
+use Rattle.split.specs.Steps.{thereSum, Movable, Ready}
 use Rattle.split.specs.Shares.{homeRows, homeTicks}
-use Rattle.split.specs.declared.Row.{Row}
-use Rattle.split.proofs.Turns.{steps-length}
 
 both-movable : (w n f : ℕ) (home : Bool) → 0 < n → (home ≡ true → (n ≤ f) × (n ≤ w)) → bothRow home n f .movable ≡ true
     → Movable w (bothRow home n f)
@@ -45,39 +44,44 @@ home-ready k w [] legal i l m = absurd (not-suc-le-zero l)
 home-ready k w (j ∷ js) legal zero l m = legal-movable k w j (legal .0) m
 home-ready k w (j ∷ js) legal (suc i) l m = home-ready k w js (legal .1) i (le-of-suc-le-suc l) m
 
-job-there : (j : Job) → atHome First j .there ≡ atHome Second j .here
+-- A legal job at home has at most the window on each kind, and is legal for a longer window too.
+home-fits : (w : ℕ) (j : Job) → LegalJob w j → (atHome First j .here ≤ w) × (atHome First j .there ≤ w)
 unfolding atHome
-job-there (Both c1 c2) = go (leb (c1 .0) (c2 .0)) refl
+home-fits w (Both c1 c2) legal = go (leb (c1 .0) (c2 .0)) refl
   where
-    go : (t : Bool) → leb (c1 .0) (c2 .0) ≡ t → bothRow t (c1 .0) (c2 .0) .there ≡ bothRow (ltb (c2 .0) (c1 .0)) (c2 .0) (c1 .0) .here
-    go true e = rw (le-ltb (c2 .0) (c1 .0) (leb-true _ _ e))
-    go false e = rw (lt-ltb (c2 .0) (c1 .0) (leb-false _ _ e))
-job-there (OnlyFirst c1) = refl
-job-there (OnlySecond c2) = refl
+    go : (t : Bool) → leb (c1 .0) (c2 .0) ≡ t → (bothRow t (c1 .0) (c2 .0) .here ≤ w) × (bothRow t (c1 .0) (c2 .0) .there ≤ w)
+    go true e = let h = leb-true (c1 .0) (c2 .0) e in (omega arith, omega arith)
+    go false e = let h = leb-false (c1 .0) (c2 .0) e in (omega arith, omega arith)
+home-fits w (OnlyFirst c1) legal = (legal .1, omega arith)
+home-fits w (OnlySecond c2) legal = (omega arith, legal .1)
+
+pub homes-fit : (w n : ℕ) (c1 c2 : List ℕ) → All (LegalJob w) (jobsIn n c1 c2) → (i : ℕ) → i < n
+    → (atHome First (jobAt (at c1 i) (at c2 i)) .here ≤ w) × (atHome First (jobAt (at c1 i) (at c2 i)) .there ≤ w)
+homes-fit w n c1 c2 legal i l =
+    let js : ℕ → Job = λ k. jobAt (at c1 k) (at c2 k) in
+    home-fits w (js i) (rw (upto-at n js (js i) i l) at (all-at (LegalJob w) (js i) (jobsIn n c1 c2) i (omega (arith, upto-length n js)) legal))
+
+pub legal-longer : (w v : ℕ) → w ≤ v → (j : Job) → LegalJob w j → LegalJob v j
+legal-longer w v h (Both c1 c2) legal = (legal .0, legal .1, omega arith, legal .3, legal .4)
+legal-longer w v h (OnlyFirst c1) legal = (legal .0, omega arith, legal .2)
+legal-longer w v h (OnlySecond c2) legal = (legal .0, omega arith, legal .2)
+
+sides : (j : Job) → (atHome First j .there ≡ atHome Second j .here) × (atHome Second j .there ≡ atHome First j .here)
+unfolding atHome
+sides (Both c1 c2) = go (leb (c1 .0) (c2 .0)) refl
+  where
+    go : (t : Bool) → leb (c1 .0) (c2 .0) ≡ t
+        → (bothRow t (c1 .0) (c2 .0) .there ≡ bothRow (ltb (c2 .0) (c1 .0)) (c2 .0) (c1 .0) .here)
+        × (bothRow (ltb (c2 .0) (c1 .0)) (c2 .0) (c1 .0) .there ≡ bothRow t (c1 .0) (c2 .0) .here)
+    go true e = rw (le-ltb (c2 .0) (c1 .0) (leb-true _ _ e)) (refl, refl)
+    go false e = rw (lt-ltb (c2 .0) (c1 .0) (leb-false _ _ e)) (refl, refl)
+sides (OnlyFirst c1) = (refl, refl)
+sides (OnlySecond c2) = (refl, refl)
 
 pub home-there : (js : List Job) → thereSum (homeRows First js) ≡ homeTicks Second js
 home-there [] = refl
-home-there (j ∷ js) = omega (arith, job-there j, home-there js)
+home-there (j ∷ js) = omega (arith, sides j .0, home-there js)
 
--- The rows of the first n jobs at home, with zeros behind.
-module _ (k : Kind) (n : ℕ) (jobs : List Job) (home : List Row) (fits : n ≤ length jobs)
-    (is : home ≡ homeRows k (take n jobs) ++ replicate (64 - n) noRow) where
-  size : length (homeRows k (take n jobs)) ≡ n
-  size = length-map (take n jobs) (atHome k) ∙ length-take-le n jobs fits
-
-  pub home-front : take n home ≡ homeRows k (take n jobs)
-  home-front = rw is (take-at _ _ n size)
-
-  pub home-behind : drop n home ≡ replicate (64 - n) noRow
-  home-behind = rw is (drop-at (homeRows k (take n jobs)) _ n size)
-
-  -- What the steps make of them.
-  module _ (w room : ℕ) (rows : List Row) (moved : rows ≡ stepsOf n w room (take n home) ++ drop n home) where
-    after : length (stepsOf n w room (take n home)) ≡ n
-    after = steps-length n w room (take n home) ∙ rw home-front size
-
-    pub steps-front : take n rows ≡ stepsOf (length (take n jobs)) w room (homeRows k (take n jobs))
-    steps-front = rw (moved, take-at _ (drop n home) n after, home-front, length-take-le n jobs fits)
-
-    pub steps-behind : drop n rows ≡ replicate (64 - n) noRow
-    steps-behind = rw moved (drop-at (stepsOf n w room (take n home)) _ n after ∙ home-behind)
+pub home-here : (js : List Job) → thereSum (homeRows Second js) ≡ homeTicks First js
+home-here [] = refl
+home-here (j ∷ js) = omega (arith, sides j .1, home-here js)

@@ -9,9 +9,7 @@ use native.Mathlib.Omega.{arith}
 use lib.ListN.{length, getD}
 use borrow.Author.Tests.{ltb-true, ltb-false}
 use Rattle.split.specs.Steps.{ahead, better, nextFrom, nextOf, noRow, Ready}
-use Rattle.split.specs.declared.Row.{Row}
-use Rattle.split.specs.declared.Next.{Next}
-use Rattle.split.specs.declared.Next.the-variants.{Nobody, At}
+use Rattle.split.specs.Rows.{Row, Next, Nobody, At}
 
 -- The ratio of s is at most that of r, or below it.
 abbrev pub Upto : Row → Row → Type 0

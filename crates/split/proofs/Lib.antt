@@ -1,11 +1,13 @@
 pub mod BothSides
-pub mod Walk
 pub mod Signed
 pub mod Number
 pub mod Leads
 pub mod Turns
 pub mod Homes
 pub mod Answered
+pub mod Columns
+pub mod Answers
+pub mod Seen
 pub mod View
 pub mod Price
 pub mod Totals

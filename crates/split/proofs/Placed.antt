@@ -11,7 +11,7 @@ use borrow.Author.Tests.{leb-true, leb-false, ltb-true, ltb-false, lt-ltb, le-lt
 use Rattle.split.specs.Home.{ceil, keepOf, giveOf}
 use Rattle.split.specs.Steps.{put, movedOf, Movable}
 use Rattle.split.specs.Closed.{placedOf}
-use Rattle.split.specs.declared.Row.{Row}
+use Rattle.split.specs.Rows.{Row}
 use Rattle.split.proofs.Number.{ceil-below, ceil-least, tight-fits}
 
 -- The far end keeps at most the cost at home.
@@ -67,6 +67,26 @@ rest-give w n f h some fits more = go (leb f w) refl (keep-near w n f fits) more
         let long : w < f = leb-false f w e in
         let fit = tight-fits n f w l fits long low (ceil-least (n * (f - w)) (f - n) (omega arith)) in
         ceil-below (f * (n - h)) n (w - l) some (omega (arith, fit, mul-le-mul-left {m = n - h} {n = n - l} f (omega arith)))
+
+give-below : (w n f : ℕ) → giveOf w n f ≤ w
+unfolding giveOf
+give-below w n f = go (leb f w) refl
+  where
+    go : (t : Bool) → leb f w ≡ t → cond t f (w - keepOf w n f) ≤ w
+    go true e = leb-true f w e
+    go false e = omega arith
+
+-- So a row that is moved has at most its cost here, and at most the window there.
+pub moved-fits : (w room all : ℕ) (r : Row) → Movable w r → r .here ≤ all → room < all
+    → (movedOf w room all r .here ≤ r .near) × (movedOf w room all r .there ≤ w)
+moved-fits w room all r mine among over = go (moved-goes w room all r among)
+  where
+    go : {v : Row} → Goes w room all r v → (v .here ≤ r .near) × (v .there ≤ w)
+    go (end h) = (keep-near w (r .near) (r .far) (mine .fits), give-below w (r .near) (r .far))
+    go (part h more e) = (
+      omega (arith, mine .whole),
+      omega (arith, rest-give w (r .near) (r .far) h (mine .some) (mine .fits) (omega arith), give-below w (r .near) (r .far)),
+    )
 
 -- A row stays if it cannot be moved, or if the ticks are within the room; else it goes by one step's rule.
 module _ (w room all : ℕ) (r : Row) where

@@ -17,9 +17,7 @@ use Rattle.model.specs.declared.Job.{Job}
 use Rattle.split.specs.Home.{ceil, keepOf, giveOf}
 use Rattle.split.specs.Steps.{hereSum, thereSum, nextOf, put, movedOf, stepOf, stepsOf, noRow}
 use Rattle.split.specs.Shares.{sharesSeen}
-use Rattle.split.specs.declared.Row.{Row}
-use Rattle.split.specs.declared.Next.{Next}
-use Rattle.split.specs.declared.Next.the-variants.{Nobody, At}
+use Rattle.split.specs.Rows.{Row, Next, Nobody, At}
 use Rattle.split.proofs.Leads.{Leads, IsNext, next-law}
 use Rattle.split.proofs.Turns.{steps-within}
 use Rattle.split.proofs.Number.{part-most}

@@ -15,8 +15,8 @@ use Rattle.model.specs.declared.Kind.{Kind}
 use Rattle.model.specs.declared.Kind.the-variants.{First, Second}
 use Rattle.model.specs.declared.Job.{Job}
 use Rattle.model.specs.declared.Job.the-variants.{Both, OnlyFirst, OnlySecond}
-use Rattle.split.specs.declared.Row.{Row}
-use Rattle.split.specs.declared.FarEnd.{FarEnd}
+use Rattle.split.specs.Rows.{Row}
+use Rattle.split.specs.declared.Ends.{Ends}
 
 abbrev pub ceil : ℕ → ℕ → ℕ
 ceil a b = (a + (b - 1)) / b
@@ -54,5 +54,5 @@ keepOf w n f = cond (leb f w) 0 (ceil (n * (f - w)) (f - n))
 unfoldable pub giveOf : (w n f : ℕ) → ℕ
 giveOf w n f = cond (leb f w) f (w - keepOf w n f)
 
-abbrev pub farEndOf : (w n f : ℕ) → FarEnd
+abbrev pub farEndOf : (w n f : ℕ) → Ends
 farEndOf w n f = record { keep = keepOf w n f; give = giveOf w n f }

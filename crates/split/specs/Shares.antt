@@ -5,7 +5,6 @@
 --   sharesOf     the same of any set: checks 1 to 5 come first
 --   balanceOf    the starting balance of each kind, of any legal set
 --   saysShared, saysBalanced    what the code's answers say, in document 01's terms
---   AtHome       what the code's sums of the jobs at home say
 --   Answers      an answer of the code's that says so, with zeros in every row that it does not count
 -- Assumes nothing.
 use mathlib.Core.Path.{_≡_}
@@ -14,8 +13,9 @@ use mathlib.Core.List.{List, map}
 use Prim.Native.Nat.{ℕ, _-_, _≤_}
 use lib.Dec.{leb, ltb}
 use lib.IntN.{ℤ, pos, _-ℤ_}
-use lib.ListN.{length, take, drop, replicate}
+use lib.ListN.{length, drop, replicate}
 use Rattle.model.specs.Board.{on, roomOf}
+use Rattle.model.specs.Columns.{sharesIn}
 use Rattle.model.specs.Refusal.{Answer, given, refused, saysRefusal, andThen}
 use Rattle.model.specs.Split.{share}
 use Rattle.model.specs.declared.Kind.{Kind}
@@ -27,9 +27,8 @@ use Rattle.model.specs.declared.Refusal.{Refusal}
 use Rattle.model.specs.Limits.{jobsMost}
 use Rattle.legal.specs.Legal.{legalOf}
 use Rattle.split.specs.Home.{atHome}
-use Rattle.split.specs.Steps.{hereSum, thereSum, sumMost, stepsOf}
-use Rattle.split.specs.declared.Row.{Row}
-use Rattle.split.specs.declared.Sums.{Sums}
+use Rattle.split.specs.Steps.{hereSum, thereSum, stepsOf}
+use Rattle.split.specs.Rows.{Row}
 use Rattle.split.specs.declared.Outcome.{Outcome}
 use Rattle.split.specs.declared.Outcome.the-variants.{Shares, Refused}
 use Rattle.split.specs.declared.Shared.{Shared}
@@ -49,13 +48,6 @@ homeRows k js = map (atHome k) js
 
 abbrev pub homeTicks : Kind → List Job → ℕ
 homeTicks k js = hereSum (homeRows k js)
-
--- The ticks at home on each kind, as the code adds them up.
-pub record AtHome (js : List Job) (r : Sums) : Type 0 where
-  pub first : r .here ≡ homeTicks First js
-  pub second : r .there ≡ homeTicks Second js
-  pub small-first : r .here ≤ sumMost
-  pub small-second : r .there ≤ sumMost
 
 -- The three causes of a refusal for room: both kinds over at home; the kind that was over still over with its movable jobs at their
 -- far ends; that kind within its room, and the other not.
@@ -100,27 +92,26 @@ abbrev pub balanceOf : Board → ℕ → List Job → Answer Balance
 balanceOf board n js =
     andThen (legalOf board n js) (λ (_ : Unit {0}). given (record { first = balanceOn board js First; second = balanceOn board js Second }))
 
-abbrev pub saysOutcome : Outcome → List Share → Answer (List Share)
-saysOutcome (Shares n) ss = given (take n ss)
-saysOutcome (Refused r) ss = saysRefusal r
+-- Shares are given in two columns, the ticks on each kind.
+abbrev pub saysOutcome : Outcome → (s1 s2 : List ℕ) → Answer (List Share)
+saysOutcome (Shares n) s1 s2 = given (sharesIn n s1 s2)
+saysOutcome (Refused r) s1 s2 = saysRefusal r
 
 abbrev pub saysShared : Shared → Answer (List Share)
-saysShared r = saysOutcome (r .outcome) (r .shares)
+saysShared r = saysOutcome (r .outcome) (r .first) (r .second)
 
 abbrev pub rowsOf : Outcome → ℕ
 rowsOf (Shares n) = n
 rowsOf (Refused r) = 0
 
-abbrev pub zeros : ℕ → List Share
-zeros n = replicate n (share 0 0)
-
 pub record Answers (answer : Answer (List Share)) (r : Shared) : Type 0 where
   pub says : saysShared r ≡ answer
   pub few : rowsOf (r .outcome) ≤ jobsMost
-  pub rest : drop (rowsOf (r .outcome)) (r .shares) ≡ zeros (jobsMost - rowsOf (r .outcome))
+  pub rest1 : drop (rowsOf (r .outcome)) (r .first) ≡ replicate (jobsMost - rowsOf (r .outcome)) 0
+  pub rest2 : drop (rowsOf (r .outcome)) (r .second) ≡ replicate (jobsMost - rowsOf (r .outcome)) 0
 
 abbrev pub none : Refusal → Shared
-none refusal = record { outcome = Refused refusal; shares = zeros jobsMost }
+none refusal = record { outcome = Refused refusal; first = replicate jobsMost 0; second = replicate jobsMost 0 }
 
 abbrev pub saysBalanced : Balanced → Answer Balance
 saysBalanced (Given b) = given b

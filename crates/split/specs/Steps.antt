@@ -14,10 +14,8 @@ use lib.Dec.{leb, ltb}
 use lib.ListN.{length, getD, set}
 use Rattle.model.specs.Lists.{sumOf}
 use Rattle.split.specs.Home.{ceil, keepOf, giveOf}
-use Rattle.split.specs.declared.Row.{Row}
+use Rattle.split.specs.Rows.{Row, Next, Nobody, At}
 use Rattle.split.specs.declared.Sums.{Sums}
-use Rattle.split.specs.declared.Next.{Next}
-use Rattle.split.specs.declared.Next.the-variants.{Nobody, At}
 
 abbrev pub hereSum : List Row → ℕ
 hereSum rs = sumOf (λ (r : Row). r .here) rs

@@ -5,19 +5,25 @@ use Rattle.sets.proofs.put_shares.Statement.{statement}
 use Rattle.sets.proofs.put_shares.Tie as tie
 
 abbrev Inv-loop : tie.InvT-loop
-Inv-loop n shares i₀ i = i ≤ 64
+Inv-loop n first second i₀ i = i ≤ 64
 
 abbrev μ-loop : tie.MeasureT-loop
-μ-loop n shares i₀ i = 64 - i
+μ-loop n first second i₀ i = 64 - i
 
 loop-holds : tie.Need-loop-holds Inv-loop μ-loop
 loop-holds c = search needs
 
-mul-s : tie.Need-mul-s Inv-loop μ-loop
-mul-s c = search needs
+mul-put-share : tie.Need-mul-put-share Inv-loop μ-loop
+mul-put-share c = search needs
 
-array-copy-out-s : tie.Need-array-copy-out-s Inv-loop μ-loop
-array-copy-out-s c = search needs
+array-read-put-share : tie.Need-array-read-put-share Inv-loop μ-loop
+array-read-put-share c = search needs
+
+mul-put-share-2 : tie.Need-mul-put-share-2 Inv-loop μ-loop
+mul-put-share-2 c = search needs
+
+array-read-put-share-2 : tie.Need-array-read-put-share-2 Inv-loop μ-loop
+array-read-put-share-2 c = search needs
 
 put-share-requires : tie.Need-put-share-requires Inv-loop μ-loop
 put-share-requires c κs = search needs
@@ -41,8 +47,10 @@ put-shares-spec =
     Inv-loop
     μ-loop
     loop-holds
-    mul-s
-    array-copy-out-s
+    mul-put-share
+    array-read-put-share
+    mul-put-share-2
+    array-read-put-share-2
     put-share-requires
     add-i
     loop-less

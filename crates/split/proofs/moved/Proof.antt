@@ -13,9 +13,6 @@ use Rattle.split.proofs.moved.Tie as tie
 far-end-requires : tie.Need-far-end-requires
 far-end-requires c κs = search needs
 
-cast-others : tie.Need-cast-others
-cast-others c = search needs
-
 sub-others : tie.Need-sub-others
 sub-others c = search needs
 
@@ -28,71 +25,62 @@ add-if1 c = search needs
 returns : tie.Need-returns
 unfolding movedOf
 returns c =
-    let d = c .before .before .before in
+    let d = c .before .before in
     simp (d .far-end .ensures, le-leb _ _ (rw (d .far-end .ensures) at (c .if1 .taken)))
 
 sub-rest : tie.Need-sub-rest
 sub-rest c = search needs
-
-cast-near : tie.Need-cast-near
-cast-near c = search needs
-
-cast-there : tie.Need-cast-there
-cast-there c = search needs
 
 sub-there : tie.Need-sub-there
 sub-there c = search needs
 
 mul-there : tie.Need-mul-there
 mul-there c =
-    let a = c .before .before .before .before .before .before .args in
-    omega (arith, product {a = a .r .far} {b = a .r .near - (a .room - (a .all - a .r .here))} (search needs) (omega arith))
+    let a = c .before .before .before .args in
+    omega (arith, product {a = a .far} {b = a .near - (a .room - (a .all - a .near))} (search needs) (omega arith))
 
 sub-there-2 : tie.Need-sub-there-2
 sub-there-2 c = search needs
 
 add-there : tie.Need-add-there
 add-there c =
-    let a = c .before .before .before .before .before .before .args in
-    omega (arith, product {a = a .r .far} {b = a .r .near - (a .room - (a .all - a .r .here))} (search needs) (omega arith))
+    let a = c .before .before .before .args in
+    omega (arith, product {a = a .far} {b = a .near - (a .room - (a .all - a .near))} (search needs) (omega arith))
 
 div-there : tie.Need-div-there
 div-there c = search needs
 
-cast-t16 : tie.Need-cast-t16
-cast-t16 c = search needs
-
 cast-t17 : tie.Need-cast-t17
-cast-t17 c =
-    let a = c .before .before .before .before .before .before .args in
-    let rest = a .room - (a .all - a .r .here) in
-    let m : a .r .far * (a .r .near - rest) ≤ a .r .near * a .r .far = omega (arith, mul-le-mul-left {m = a .r .near - rest} {n = a .r .near} (a .r .far) (omega arith)) in
-    omega (arith, ceil-below (a .r .far * (a .r .near - rest)) (a .r .near) (a .r .far) (omega arith) m)
+cast-t17 c = search needs
+
+cast-t18 : tie.Need-cast-t18
+cast-t18 c =
+    let a = c .before .before .before .args in
+    let rest = a .room - (a .all - a .near) in
+    let m : a .far * (a .near - rest) ≤ a .near * a .far = omega (arith, mul-le-mul-left {m = a .near - rest} {n = a .near} (a .far) (omega arith)) in
+    omega (arith, ceil-below (a .far * (a .near - rest)) (a .near) (a .far) (omega arith) m)
 
 returns-2 : tie.Need-returns-2
 unfolding movedOf
 returns-2 c =
-    let d = c .before .before .before .before .before in
-    simp (d .far-end .ensures, lt-leb _ _ (rw (d .far-end .ensures) at (c .before .before .if1 .left)))
+    let d = c .before .before in
+    simp (lt-leb _ _ (rw (d .far-end .ensures) at (c .if1 .left)))
 
 pub moved-spec : {M : Type 1} → statement M
 moved-spec =
     tie.close
     (tie.spec
     far-end-requires
-    cast-others
     sub-others
     cast-if1
     add-if1
     returns
     sub-rest
-    cast-near
-    cast-there
     sub-there
     mul-there
     sub-there-2
     add-there
     div-there
-    cast-t16
     cast-t17
+    cast-t18
     returns-2)

@@ -1,29 +1,42 @@
--- `split::next_of` meets its contract. The invariant: what the definition makes of the row found so far and the rows that are left is what it
--- makes of all. Assumes nothing.
-use mathlib.Core.Path.{_≡_}
-use Prim.Native.Nat.{_-_, _≤_}
+-- `split::next_of` meets its contract. The invariant: the one found so far is the best of the rows passed, whatever their ticks. Assumes nothing.
+use mathlib.Core.Path.{_≡_, refl, ap, _∙_}
+use mathlib.Core.List.{List}
+use Prim.Native.Nat.{ℕ, _-_, _≤_}
 use native.Mathlib.Omega.{arith}
 use borrow.Author.Needs.{needs}
-use lib.ListN.{length, take, drop}
-use Rattle.model.proofs.Walk.{left-cons, left-none}
-use Rattle.split.specs.Steps.{nextFrom, nextOf, noRow}
+use Rattle.split.specs.Steps.{nextFrom, nextOf}
+use Rattle.split.specs.Columns.{rowsIn, Small, bestOf, betterOf}
+use Rattle.model.specs.Columns.{at}
+use Rattle.split.specs.declared.Best.{Best}
+use Rattle.split.proofs.Columns.{best-more}
 use Rattle.split.proofs.next_of.Statement.{statement}
 use Rattle.split.proofs.next_of.Tie as tie
 
 abbrev Inv-loop : tie.InvT-loop
-Inv-loop n rows found₀ i₀ found i = (i ≤ n) × (nextFrom found i (drop i (take n rows)) ≡ nextOf (take n rows))
+Inv-loop near far n found₀ i₀ found i =
+    (i ≤ n) × Small found × ((here there : List ℕ) → found ≡ bestOf n (nextOf (rowsIn i near far here there)))
 
 abbrev μ-loop : tie.MeasureT-loop
-μ-loop n rows found₀ i₀ found i = n - i
+μ-loop near far n found₀ i₀ found i = n - i
 
 loop-holds : tie.Need-loop-holds Inv-loop μ-loop
-loop-holds c = search needs
+unfolding nextFrom
+loop-holds c = (omega arith, record { near = omega arith; far = omega arith }, λ h t. refl)
 
-mul-row : tie.Need-mul-row Inv-loop μ-loop
-mul-row c = search needs
+mul-better-of : tie.Need-mul-better-of Inv-loop μ-loop
+mul-better-of c = search needs
 
-array-copy-out-row : tie.Need-array-copy-out-row Inv-loop μ-loop
-array-copy-out-row c = search needs
+shared-slice-read-better-of : tie.Need-shared-slice-read-better-of Inv-loop μ-loop
+shared-slice-read-better-of c = search needs
+
+cast-better-of : tie.Need-cast-better-of Inv-loop μ-loop
+cast-better-of c = omega (arith, c .shared-slice-known2 .given (c .before .before .loop .i))
+
+mul-better-of-2 : tie.Need-mul-better-of-2 Inv-loop μ-loop
+mul-better-of-2 c = search needs
+
+element-copy-out-better-of : tie.Need-element-copy-out-better-of Inv-loop μ-loop
+element-copy-out-better-of c = search needs
 
 better-of-requires : tie.Need-better-of-requires Inv-loop μ-loop
 better-of-requires c κs = search needs
@@ -35,21 +48,18 @@ loop-less : tie.Need-loop-less Inv-loop μ-loop
 loop-less c = search needs
 
 loop-again : tie.Need-loop-again Inv-loop μ-loop
-unfolding nextFrom
 loop-again c =
-    let a = c .before .before .before .before .args in
-    let l = c .before .before .before .loop in
-    let full : length (a .t1) ≡ 64 = search needs in
-    (omega arith, rw (c .better-of .ensures) (rw (left-cons (a .t1) (a .n) (omega arith) (l .i) noRow (omega arith)) at (l .inv .1)))
+    let a = c .before .before .before .before .before .before .args in
+    let l = c .before .before .before .before .loop in
+    let e = c .better-of .ensures in
+    (omega arith, e .1, λ h t. e .0 ∙ ap (λ (x : Best). betterOf x (l .i) (at (a .near .now) (l .i)) (at (a .far .now) (l .i))) (l .inv .2 h t) ∙ best-more (a .n) (a .near .now) (a .far .now) h t (l .i))
 
 returns : tie.Need-returns Inv-loop μ-loop
-unfolding nextFrom
 returns c =
-    let a = c .before .before .args in
+    let a = c .before .before .before .args in
     let l = c .before .loop in
-    let full : length (a .t1) ≡ 64 = search needs in
     let end : l .i ≡ a .n = omega arith in
-    rw (end, left-none (a .t1) (a .n) (omega arith)) at (l .inv .1)
+    record { is = rw end at (l .inv .2) }
 
 pub next-of-spec : {M : Type 1} → statement M
 next-of-spec =
@@ -58,8 +68,11 @@ next-of-spec =
     Inv-loop
     μ-loop
     loop-holds
-    mul-row
-    array-copy-out-row
+    mul-better-of
+    shared-slice-read-better-of
+    cast-better-of
+    mul-better-of-2
+    element-copy-out-better-of
     better-of-requires
     add-i
     loop-less

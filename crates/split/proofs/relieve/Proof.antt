@@ -1,32 +1,42 @@
--- `split::relieve` meets its contract: legal jobs at home are ready for the steps. Assumes nothing.
-use mathlib.Core.Path.{_≡_}
-use native.Mathlib.Omega.{arith}
-use lib.ListN.{length, take}
-use Rattle.split.proofs.Homes.{home-ready, home-front, steps-front, steps-behind}
+-- `split::relieve` meets its contract: the near costs that are marked are those of the rows that the contract names. Assumes nothing.
 use borrow.Author.Needs.{needs}
+use Rattle.split.proofs.Answers.{marked-rows, relieves}
 use Rattle.split.proofs.relieve.Statement.{statement}
 use Rattle.split.proofs.relieve.Tie as tie
 
-home-rows-requires : tie.Need-home-rows-requires
-home-rows-requires c κs = search needs
+mark-requires : tie.Need-mark-requires
+mark-requires c κs = search needs
 
 steps-requires : tie.Need-steps-requires
 steps-requires c κs =
-    let a = c .before .args in
-    let full : length (a .jobs) ≡ 64 = search needs in
-    (search needs, rw (home-front (a .kind) (a .n) (a .jobs) _ (omega arith) (c .home-rows .ensures)) (home-ready (a .kind) (a .w) (take (a .n) (a .jobs)) (c .before .pre .1)))
+    let start = c .before .before .before .before .before .before .before .before .before .before .before in
+    let a = start .args in
+    let e = marked-rows (a .n) _ (a .far .now) (a .here .now) (a .there .now) _ (c .before .before .before .before .before .mark .ensures) in
+    (search needs, rw e (start .pre .1))
 
-settle-requires : tie.Need-settle-requires
-settle-requires c κs =
-    let a = c .before .before .args in
-    let full : length (a .jobs) ≡ 64 = search needs in
-    (search needs, steps-behind (a .kind) (a .n) (a .jobs) _ (omega arith) (c .before .home-rows .ensures) (a .w) (a .room) _ (c .steps .ensures))
+is-within-requires : tie.Need-is-within-requires
+is-within-requires c κs = search needs
+
+same-length : tie.Need-same-length
+same-length c = search needs
+
+same-length-2 : tie.Need-same-length-2
+same-length-2 c = search needs
+
+same-length-3 : tie.Need-same-length-3
+same-length-3 c = search needs
 
 returns : tie.Need-returns
-returns c =
-    let a = c .before .before .before .args in
-    let full : length (a .jobs) ≡ 64 = search needs in
-    rw (steps-front (a .kind) (a .n) (a .jobs) _ (omega arith) (c .before .before .home-rows .ensures) (a .w) (a .room) _ (c .before .steps .ensures)) at (c .settle .ensures)
+returns c = relieves _ _ (c .before .before .before .before .before .before .before .before .before .before .before .before .before .mark .ensures) (c .before .before .before .before .before .before .before .steps .ensures) (c .is-within .ensures)
 
 pub relieve-spec : {M : Type 1} → statement M
-relieve-spec = tie.close (tie.spec home-rows-requires steps-requires settle-requires returns)
+relieve-spec =
+    tie.close
+    (tie.spec
+    mark-requires
+    steps-requires
+    is-within-requires
+    same-length
+    same-length-2
+    same-length-3
+    returns)

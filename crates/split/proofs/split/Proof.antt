@@ -2,7 +2,7 @@
 use mathlib.Core.Path.{_≡_, sym}
 use mathlib.Core.List.{List}
 use Prim.Native.Nat.{ℕ}
-use lib.ListN.{take}
+use Rattle.model.specs.Columns.{jobsIn}
 use Rattle.model.specs.Refusal.{given}
 use Rattle.model.specs.declared.Board.{Board}
 use Rattle.model.specs.declared.Job.{Job}
@@ -37,12 +37,12 @@ refused-requires c κs = search needs
 enum-told : tie.Need-enum-told
 enum-told c = search needs
 
-split-legal-requires : tie.Need-split-legal-requires
-split-legal-requires c κs =
+share-out-requires : tie.Need-share-out-requires
+share-out-requires c κs =
     let a = c .before .before .before .args in
-    let legal : legalOf (a .board) (a .n) (take (a .n) (a .jobs)) ≡ given tt = sym (rw (c .enum-told .given .1) at (c .before .before .check .ensures)) in
-    let lawful = legal-lawful (a .board) (a .n) (take (a .n) (a .jobs)) legal in
-    (lawful .few, lawful .jobs)
+    let legal : legalOf (a .board) (a .n) (jobsIn (a .n) (a .first .now) (a .second .now)) ≡ given tt = sym (rw (c .enum-told .given .1) at (c .before .before .check .ensures)) in
+    let lawful = legal-lawful (a .board) (a .n) (jobsIn (a .n) (a .first .now) (a .second .now)) legal in
+    (lawful .window-most, lawful .few, lawful .jobs)
 
 returns : tie.Need-returns
 returns c =
@@ -52,8 +52,8 @@ returns c =
 returns-2 : tie.Need-returns-2
 returns-2 c =
     let a = c .before .before .before .before .args in
-    let legal : legalOf (a .board) (a .n) (take (a .n) (a .jobs)) ≡ given tt = sym (rw (c .before .enum-told .given .1) at (c .before .before .before .check .ensures)) in
-    promised _ _ _ _ (rw legal (c .split-legal .ensures))
+    let legal : legalOf (a .board) (a .n) (jobsIn (a .n) (a .first .now) (a .second .now)) ≡ given tt = sym (rw (c .before .enum-told .given .1) at (c .before .before .before .check .ensures)) in
+    promised _ _ _ _ (rw legal (c .share-out .ensures))
 
 pub split-spec : {M : Type 1} → statement M
 split-spec =
@@ -63,6 +63,6 @@ split-spec =
     enum-known-refusal
     refused-requires
     enum-told
-    split-legal-requires
+    share-out-requires
     returns
     returns-2)

@@ -1,13 +1,10 @@
--- `split::split_legal` meets its contract, by which kinds are over at home. Assumes nothing.
-use mathlib.Core.Path.{_≡_}
+-- `split::split_legal` meets its contract: which kinds are over at home decides, as in the definition. Assumes nothing.
 use native.Mathlib.Omega.{arith}
-use lib.ListN.{length, take}
-use Rattle.model.specs.Board.{roomOf}
-use Rattle.model.specs.declared.Kind.the-variants.{First, Second}
-use Rattle.model.specs.declared.Refusal.the-variants.{Room}
-use Rattle.split.proofs.Homes.{home-front, home-behind}
-use Rattle.split.proofs.Answered.{answers-none, split-both, split-first, split-second, split-home}
 use borrow.Author.Needs.{needs}
+use Rattle.model.specs.Columns.{jobsIn}
+use Rattle.model.proofs.Lists.{all-map}
+use Rattle.split.proofs.Answers.{asks-first, asks-second, both-over, first-over, second-over, none-over}
+use Rattle.split.proofs.Homes.{legal-longer}
 use Rattle.split.proofs.split_legal.Statement.{statement}
 use Rattle.split.proofs.split_legal.Tie as tie
 
@@ -17,48 +14,77 @@ room-requires c κs = search needs
 room-requires-2 : tie.Need-room-requires-2
 room-requires-2 c κs = search needs
 
-home-ticks-requires : tie.Need-home-ticks-requires
-home-ticks-requires c κs = search needs
+go-home-requires : tie.Need-go-home-requires
+go-home-requires c κs =
+    let start = c .before .before .before .before .before .before .before in
+    let a = start .args in
+    (search needs, all-map _ _ (legal-longer _ _ (start .pre .0 .0)) (jobsIn (a .n) (a .first .now) (a .second .now)) (start .pre .1))
 
-refused-requires : tie.Need-refused-requires
-refused-requires c κs = search needs
+same-length : tie.Need-same-length
+same-length c = search needs
+
+same-length-2 : tie.Need-same-length-2
+same-length-2 c = search needs
 
 returns : tie.Need-returns
 returns c =
-    let a = c .before .before .before .before .before .before .before .before .args in
-    rw (c .refused .ensures) (answers-none Room (split-both (a .board .window) (roomOf (a .board) First) (roomOf (a .board) Second) (take (a .n) (a .jobs)) (omega arith) (omega arith)))
+    let s = c .before .before .before in
+    let room1 = s .before .before .before .before .before .before .before .before .before .room .ensures in
+    let room2 = s .before .before .before .before .before .before .before .before .room2 .ensures in
+    both-over (s .before .before .before .before .before .go-home .ensures) _ _ _ (omega arith) (omega arith)
 
 relieve-requires : tie.Need-relieve-requires
-relieve-requires c κs = search needs
+relieve-requires c κs = (search needs, asks-first (c .before .before .before .before .before .before .before .before .before .before .before .go-home .ensures) _ (c .before .before .before .before .before .before .before .before .before .before .before .before .before .before .before .before .before .before .before .pre .1))
+
+same-length-3 : tie.Need-same-length-3
+same-length-3 c = search needs
+
+same-length-4 : tie.Need-same-length-4
+same-length-4 c = search needs
+
+same-length-5 : tie.Need-same-length-5
+same-length-5 c = search needs
 
 returns-2 : tie.Need-returns-2
 returns-2 c =
-    let a = c .before .before .before .before .before .before .before .before .args in
-    rw (c .before .before .before .before .before .before .before .room .ensures, c .before .before .before .before .before .before .room2 .ensures, split-first (a .board .window) (roomOf (a .board) First) (roomOf (a .board) Second) (take (a .n) (a .jobs)) (omega arith) (omega arith)) at (c .relieve .ensures)
+    let s = c .before .before .before .before .before .before .before .before .before .before .before .before .before in
+    let room1 = s .before .before .before .before .before .before .before .before .before .room .ensures in
+    let room2 = s .before .before .before .before .before .before .before .before .room2 .ensures in
+    first-over (s .before .before .before .before .before .go-home .ensures) _ _ _ (omega (arith, c .before .before .before .before .before .before .before .before .before .before .before .before .if1 .taken)) (omega (arith, c .before .before .before .before .before .before .before .before .before .before .if2 .left))
+    (rw (room1, room2) at (c .before .before .before .before .before .before .relieve .ensures))
 
 relieve-requires-2 : tie.Need-relieve-requires-2
-relieve-requires-2 c κs = search needs
+relieve-requires-2 c κs = (search needs, asks-second (c .before .before .before .before .before .before .before .before .before .before .before .go-home .ensures) _ (c .before .before .before .before .before .before .before .before .before .before .before .before .before .before .before .before .before .before .before .pre .1))
+
+same-length-6 : tie.Need-same-length-6
+same-length-6 c = search needs
+
+same-length-7 : tie.Need-same-length-7
+same-length-7 c = search needs
+
+same-length-8 : tie.Need-same-length-8
+same-length-8 c = search needs
 
 returns-3 : tie.Need-returns-3
 returns-3 c =
-    let a = c .before .before .before .before .before .before .before .before .args in
-    rw (c .before .before .before .before .before .before .before .room .ensures, c .before .before .before .before .before .before .room2 .ensures, split-second (a .board .window) (roomOf (a .board) First) (roomOf (a .board) Second) (take (a .n) (a .jobs)) (omega arith) (omega arith)) at (c .relieve2 .ensures)
+    let s = c .before .before .before .before .before .before .before .before .before .before .before .before .before in
+    let room1 = s .before .before .before .before .before .before .before .before .before .room .ensures in
+    let room2 = s .before .before .before .before .before .before .before .before .room2 .ensures in
+    second-over (s .before .before .before .before .before .go-home .ensures) _ _ _ (omega (arith, c .before .before .before .before .before .before .before .before .before .before .before .before .if1 .left)) (omega (arith, c .before .before .before .before .before .before .before .before .before .before .if3 .taken))
+    (rw (room1, room2) at (c .before .before .before .before .before .before .relieve2 .ensures))
 
-home-rows-requires : tie.Need-home-rows-requires
-home-rows-requires c κs = search needs
+same-length-9 : tie.Need-same-length-9
+same-length-9 c = search needs
 
-settle-requires : tie.Need-settle-requires
-settle-requires c κs =
-    let a = c .before .before .before .before .before .before .before .before .args in
-    let full : length (a .jobs) ≡ 64 = search needs in
-    (search needs, home-behind First (a .n) (a .jobs) _ (omega arith) (c .home-rows .ensures))
+same-length-10 : tie.Need-same-length-10
+same-length-10 c = search needs
 
 returns-4 : tie.Need-returns-4
 returns-4 c =
-    let a = c .before .before .before .before .before .before .before .before .before .args in
-    let full : length (a .jobs) ≡ 64 = search needs in
-    let front = home-front First (a .n) (a .jobs) _ (omega arith) (c .before .home-rows .ensures) in
-    rw (c .before .before .before .before .before .before .before .before .room .ensures, c .before .before .before .before .before .before .before .room2 .ensures, front, split-home (a .board .window) (roomOf (a .board) First) (roomOf (a .board) Second) (take (a .n) (a .jobs)) (omega arith) (omega arith)) at (c .settle .ensures)
+    let s = c .before .before .before in
+    let room1 = s .before .before .before .before .before .before .before .before .before .room .ensures in
+    let room2 = s .before .before .before .before .before .before .before .before .room2 .ensures in
+    none-over (s .before .before .before .before .before .go-home .ensures) _ _ _ (omega arith) (omega arith)
 
 pub split-legal-spec : {M : Type 1} → statement M
 split-legal-spec =
@@ -66,13 +92,20 @@ split-legal-spec =
     (tie.spec
     room-requires
     room-requires-2
-    home-ticks-requires
-    refused-requires
+    go-home-requires
+    same-length
+    same-length-2
     returns
     relieve-requires
+    same-length-3
+    same-length-4
+    same-length-5
     returns-2
     relieve-requires-2
+    same-length-6
+    same-length-7
+    same-length-8
     returns-3
-    home-rows-requires
-    settle-requires
+    same-length-9
+    same-length-10
     returns-4)

@@ -1,79 +1,82 @@
--- `split::steps` meets its contract. The invariant: the steps that are left, on the rows as they are now, end where all steps end. Assumes nothing.
-use mathlib.Core.Path.{_≡_, sym, _∙_}
-use mathlib.Core.List.{_++_}
+-- `split::steps` meets its contract. The invariant: the steps that are left, on the rows of the columns as they are now, end where all steps
+-- end (Runs). Assumes nothing.
+use mathlib.Core.Path.{refl}
 use Prim.Native.Nat.{_-_}
 use native.Mathlib.Omega.{arith}
 use borrow.Author.Needs.{needs}
-use lib.ListN.{length, take, drop, length-set}
-use Rattle.split.specs.Steps.{stepsOf, Ready}
-use Rattle.split.proofs.Turns.{turn-law, done-within, done-nobody, done-last}
+use Rattle.split.proofs.Columns.{Runs, ends-last, ends-within, ends-nobody, found-within, found-asks, goes-on}
 use Rattle.split.proofs.steps.Statement.{statement}
 use Rattle.split.proofs.steps.Tie as tie
 
 abbrev Inv-loop : tie.InvT-loop
-Inv-loop w room n now₀ left₀ now left =
-    (length now ≡ 64) × Ready w (take n now) ×
-    (stepsOf left w room (take n now) ++ drop n now ≡ stepsOf n w room (take n now₀) ++ drop n now₀)
+Inv-loop w room near₀ far n here₀ there₀ sums₀ left₀ near here there sums left =
+    Runs n w room near₀ far here₀ there₀ near here there sums left
 
 abbrev μ-loop : tie.MeasureT-loop
-μ-loop w room n now₀ left₀ now left = left
+μ-loop w room near₀ far n here₀ there₀ sums₀ left₀ near here there sums left = left
 
 loop-holds : tie.Need-loop-holds Inv-loop μ-loop
-loop-holds c = search needs
+loop-holds c =
+    let p = c .before .before .before .pre in
+    record {
+      size-near = refl;
+      size-here = refl;
+      size-there = refl;
+      rest-here = refl;
+      rest-there = refl;
+      ready = p .1 .0;
+      sum-here = p .1 .1 .here;
+      sum-there = p .1 .1 .there;
+      small-here = p .1 .1 .small-here;
+      small-there = omega arith;
+      alike = refl;
+    }
 
-sum-up-requires : tie.Need-sum-up-requires Inv-loop μ-loop
-sum-up-requires c κs = search needs
+same-length : tie.Need-same-length Inv-loop μ-loop
+same-length c = search needs
+
+same-length-2 : tie.Need-same-length-2 Inv-loop μ-loop
+same-length-2 c = search needs
+
+same-length-3 : tie.Need-same-length-3 Inv-loop μ-loop
+same-length-3 c = search needs
 
 returns : tie.Need-returns Inv-loop μ-loop
-returns c =
-    let a = c .before .before .before .before .args in
-    let l = c .before .before .before .loop in
-    done-within (l .left) (a .n) (a .w) (a .room) (l .now) (omega (arith, c .before .sum-up .ensures .here)) ∙ l .inv .2
+returns c = ends-within (c .before .before .before .loop .inv) (c .if1 .taken)
 
 next-of-requires : tie.Need-next-of-requires Inv-loop μ-loop
 next-of-requires c κs = search needs
 
-enum-told : tie.Need-enum-told Inv-loop μ-loop
-enum-told c = search needs
+same-length-4 : tie.Need-same-length-4 Inv-loop μ-loop
+same-length-4 c = search needs
+
+same-length-5 : tie.Need-same-length-5 Inv-loop μ-loop
+same-length-5 c = search needs
+
+same-length-6 : tie.Need-same-length-6 Inv-loop μ-loop
+same-length-6 c = search needs
 
 returns-2 : tie.Need-returns-2 Inv-loop μ-loop
-returns-2 c =
-    let a = c .before .before .before .before .before .before .before .args in
-    let l = c .before .before .before .before .before .before .loop in
-    done-nobody (l .left) (a .n) (a .w) (a .room) (l .now) (sym (c .before .before .next-of .ensures) ∙ c .enum-told .given .1) ∙ l .inv .2
+returns-2 c = ends-nobody (c .before .before .before .before .before .before .loop .inv) (c .before .next-of .ensures) (c .if2 .taken)
 
-enum-known-next : tie.Need-enum-known-next Inv-loop μ-loop
-enum-known-next c = search needs
+mul-advance : tie.Need-mul-advance Inv-loop μ-loop
+mul-advance c =
+    let h = found-within (c .before .before .before .before .before .before .loop .inv) (c .before .next-of .ensures) (c .before .before .before .if1 .left) (c .if2 .left) in
+    search needs
 
-moved-requires : tie.Need-moved-requires Inv-loop μ-loop
-moved-requires c κs =
-    let d = c in
-    let start = d .before .before .before .before .before .before .before .before in
-    let l = d .before .before .before .before .before .before .before .loop in
-    let sums = d .before .before .before .before .before .sum-up in
-    let next = sym (d .before .before .before .next-of .ensures) ∙ d .before .next .given .1 in
-    let t = turn-law (start .args .n) (start .args .w) _ (l .now) _ _ _ (omega (arith, start .pre .0, l .inv .0)) (l .inv .1) (sums .ensures) (d .before .before .before .before .if1 .left) next in
-    t .asks
+element-copy-out-advance : tie.Need-element-copy-out-advance Inv-loop μ-loop
+element-copy-out-advance c =
+    let h = found-within (c .before .before .before .before .before .before .loop .inv) (c .before .next-of .ensures) (c .before .before .before .if1 .left) (c .if2 .left) in
+    search needs
 
-mul-now : tie.Need-mul-now Inv-loop μ-loop
-mul-now c =
-    let d = c .before in
-    let start = d .before .before .before .before .before .before .before .before in
-    let l = d .before .before .before .before .before .before .before .loop in
-    let sums = d .before .before .before .before .before .sum-up in
-    let next = sym (d .before .before .before .next-of .ensures) ∙ d .before .next .given .1 in
-    let t = turn-law (start .args .n) (start .args .w) _ (l .now) _ _ _ (omega (arith, start .pre .0, l .inv .0)) (l .inv .1) (sums .ensures) (d .before .before .before .before .if1 .left) next in
-    omega (arith, t .within)
-
-array-set-from-now : tie.Need-array-set-from-now Inv-loop μ-loop
-array-set-from-now c =
-    let d = c .before in
-    let start = d .before .before .before .before .before .before .before .before in
-    let l = d .before .before .before .before .before .before .before .loop in
-    let sums = d .before .before .before .before .before .sum-up in
-    let next = sym (d .before .before .before .next-of .ensures) ∙ d .before .next .given .1 in
-    let t = turn-law (start .args .n) (start .args .w) _ (l .now) _ _ _ (omega (arith, start .pre .0, l .inv .0)) (l .inv .1) (sums .ensures) (d .before .before .before .before .if1 .left) next in
-    omega (arith, t .within)
+advance-requires : tie.Need-advance-requires Inv-loop μ-loop
+advance-requires c κs =
+    let run = c .before .before .before .before .before .before .before .before .before .before .loop .inv in
+    let next = c .before .before .before .before .before .next-of .ensures in
+    let over = c .before .before .before .before .before .before .before .if1 .left in
+    let some = c .before .before .before .before .if2 .left in
+    let h = found-within run next over some in
+    ((omega arith, omega arith, omega arith, omega arith), (found-asks run next over some, omega arith))
 
 sub-left : tie.Need-sub-left Inv-loop μ-loop
 sub-left c = search needs
@@ -83,22 +86,21 @@ loop-less c = search needs
 
 loop-again : tie.Need-loop-again Inv-loop μ-loop
 loop-again c =
-    let d = c .before in
-    let start = d .before .before .before .before .before .before .before .before in
-    let l = d .before .before .before .before .before .before .before .loop in
-    let sums = d .before .before .before .before .before .sum-up in
-    let next = sym (d .before .before .before .next-of .ensures) ∙ d .before .next .given .1 in
-    let t = turn-law (start .args .n) (start .args .w) _ (l .now) _ _ _ (omega (arith, start .pre .0, l .inv .0)) (l .inv .1) (sums .ensures) (d .before .before .before .before .if1 .left) next in (
-      simp length-set (l .inv .0),
-      rw (c .moved .ensures) (t .ready),
-      rw (c .moved .ensures) (t .moves (l .left) (l .left - 1) (omega arith) ∙ l .inv .2),
-    )
+    let x = c .before .before .before .before .before .before .before .before .before .before .before .before .before .before .before .before .before .loop in
+    goes-on (x .inv) (c .before .before .before .before .before .before .before .before .before .before .before .before .next-of .ensures) (c .before .before .before .before .before .before .before .before .before .before .before .before .before .before .if1 .left) (c .before .before .before .before .before .before .before .before .before .before .before .if2 .left) (x .left - 1)
+    (omega (arith, c .before .before .before .before .before .before .before .before .before .before .before .before .before .before .before .before .loop-test .taken)) (omega arith) (omega arith) (omega arith) (c .before .before .before .before .before .before .advance .ensures)
+
+same-length-7 : tie.Need-same-length-7 Inv-loop μ-loop
+same-length-7 c = search needs
+
+same-length-8 : tie.Need-same-length-8 Inv-loop μ-loop
+same-length-8 c = search needs
+
+same-length-9 : tie.Need-same-length-9 Inv-loop μ-loop
+same-length-9 c = search needs
 
 returns-3 : tie.Need-returns-3 Inv-loop μ-loop
-returns-3 c =
-    let a = c .before .before .args in
-    let l = c .before .loop in
-    done-last (l .left) (a .n) (a .w) (a .room) (l .now) (omega arith) ∙ l .inv .2
+returns-3 c = ends-last (c .before .loop .inv) (omega arith)
 
 pub steps-spec : {M : Type 1} → statement M
 steps-spec =
@@ -107,16 +109,22 @@ steps-spec =
     Inv-loop
     μ-loop
     loop-holds
-    sum-up-requires
+    same-length
+    same-length-2
+    same-length-3
     returns
     next-of-requires
-    enum-told
+    same-length-4
+    same-length-5
+    same-length-6
     returns-2
-    enum-known-next
-    moved-requires
-    mul-now
-    array-set-from-now
+    mul-advance
+    element-copy-out-advance
+    advance-requires
     sub-left
     loop-less
     loop-again
+    same-length-7
+    same-length-8
+    same-length-9
     returns-3)

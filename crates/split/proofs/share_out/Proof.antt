@@ -1,0 +1,40 @@
+-- `split::share_out` meets its contract: shares that were put into columns of zeros, or a refusal with fresh ones. Assumes nothing.
+use borrow.Author.Needs.{needs}
+use Rattle.split.proofs.Answered.{answers-none, answers-shares}
+use Rattle.split.proofs.share_out.Statement.{statement}
+use Rattle.split.proofs.share_out.Tie as tie
+
+slice-aggregate-split-legal : tie.Need-slice-aggregate-split-legal
+slice-aggregate-split-legal c = search needs
+
+slice-aggregate-split-legal-2 : tie.Need-slice-aggregate-split-legal-2
+slice-aggregate-split-legal-2 c = search needs
+
+slice-aggregate-split-legal-3 : tie.Need-slice-aggregate-split-legal-3
+slice-aggregate-split-legal-3 c = search needs
+
+split-legal-requires : tie.Need-split-legal-requires
+split-legal-requires c κs = search needs
+
+returns : tie.Need-returns
+returns c =
+    let start = c .before .before .before .before .before .before .before .before in
+    answers-shares (start .args .n) _ _ (start .pre .1) (rw (c .if1 .taken) at (c .before .before .before .before .split-legal .ensures))
+
+refused-requires : tie.Need-refused-requires
+refused-requires c κs = search needs
+
+returns-2 : tie.Need-returns-2
+returns-2 c = rw (c .refused .ensures) (answers-none _ (rw (c .before .if1 .left) at (c .before .before .before .before .before .split-legal .ensures) .is))
+
+pub share-out-spec : {M : Type 1} → statement M
+share-out-spec =
+    tie.close
+    (tie.spec
+    slice-aggregate-split-legal
+    slice-aggregate-split-legal-2
+    slice-aggregate-split-legal-3
+    split-legal-requires
+    returns
+    refused-requires
+    returns-2)
