@@ -34,7 +34,7 @@ use Rattle.slices.specs.Table.{tableOf}
 use Rattle.split.specs.Promise.{Accepted}
 use Rattle.split.specs.Steps.{hereSum, thereSum}
 use Rattle.split.specs.Shares.{sharesSeen, settled, byOver}
-use Rattle.split.specs.declared.Row.{Row}
+use Rattle.split.specs.Rows.{Row}
 use Rattle.planner.specs.Listed.{Outside, BadCost, TooLong, LowestOf, Sound, stepsOn, ShortTables, Listed, window, cores, many, cost, long, room, space}
 use Rattle.planner.specs.Plan.{fitted, planOf}
 use Rattle.planner.specs.Promise.{noJob}

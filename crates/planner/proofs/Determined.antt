@@ -1,5 +1,5 @@
 -- The promises of this crate determine their results: the answer is taken back from what it says, and every row is told.
---   plan_by_value ↦ plan-by-value-once
+--   plan_columns ↦ columns-once, the answer with every number of each lent column after the call
 --   moves ↦ moves-once
 --   plan ↦ plan-once, the answer with both lent tables after the call
 -- Assumes nothing.
@@ -15,11 +15,10 @@ use Rattle.model.specs.declared.Slice.{Slice}
 use Rattle.model.proofs.Determined.{Once, said-once, refusal-back, answerOf}
 use Rattle.planner.specs.Moving.{Moving}
 use Rattle.planner.specs.Plan.{Counts, saysPlanned}
-use Rattle.planner.specs.Promise.{Filled, Promised}
+use Rattle.planner.specs.Promise.{Columned, Promised}
 use Rattle.planner.specs.declared.Moved.{Moved}
 use Rattle.planner.specs.declared.Planned.{Planned}
 use Rattle.planner.specs.declared.Planned.the-variants.{Plan, Refused}
-use Rattle.planner.specs.declared.Tables.{Tables}
 
 abbrev plannedOf : Answer Counts → Planned
 plannedOf = answerOf (λ c. Plan (c .jobs) (c .slices)) Refused
@@ -31,14 +30,14 @@ planned-back (Refused r) = ap Refused (refusal-back r)
 planned-once : (counts : Answer Counts) → Once (λ (r : Planned). saysPlanned r ≡ counts)
 planned-once = said-once saysPlanned plannedOf planned-back
 
-pub plan-by-value-once : (board : Board) (jobs : List Job) (n m k : ℕ) → Once (λ (r : Tables). Filled board n (take n jobs) m k r)
-plan-by-value-once board jobs n m k r s p q =
-    let planned : r .planned ≡ s .planned = planned-once _ (r .planned) (s .planned) (p .says) (q .says) in
-    let shares : r .shares ≡ s .shares = cc in
-    let shared : r .shared ≡ s .shared = cc in
-    let slices : r .slices ≡ s .slices = cc in
-    let sliced : r .sliced ≡ s .sliced = cc in
-    λ i. record { planned = planned i; shares = shares i; shared = shared i; slices = slices i; sliced = sliced i }
+pub columns-once : (board : Board) (n : ℕ) (js : List Job) (s1 s2 rows : List ℕ)
+    → Once (λ (r : Planned × List ℕ × List ℕ × List ℕ). Columned board n js s1 s2 rows (r .0) (r .1) (r .2) (r .3))
+columns-once board n js s1 s2 rows r s p q =
+    let answer : r .0 ≡ s .0 = planned-once _ (r .0) (s .0) (p .says) (q .says) in
+    let first : r .1 ≡ s .1 = cc in
+    let second : r .2 ≡ s .2 = cc in
+    let slices : r .3 ≡ s .3 = cc in
+    λ i. (answer i, first i, second i, slices i)
 
 pub moves-once : (board : Board) (jobs : List Job) (n : ℕ) → Once (λ (r : Moved). Moving board n (take n jobs) r)
 moves-once board jobs n r s p q =

@@ -1,27 +1,109 @@
 -- A table that is being filled with the slices of pieces. One idea: what is done, with the pieces that are left, fills it as all pieces do,
 -- and more pieces only add rows and move the position on; so every step of the way has the room that the whole has. Assumes nothing.
-use mathlib.Core.Path.{_≡_, refl, ap}
-use mathlib.Core.Bool.{true, false}
+use mathlib.Core.Path.{_≡_, refl, sym, _∙_}
+use mathlib.Core.Bool.{Bool, true, false, cond, and-comm}
 use mathlib.Core.List.{List, [], _∷_, _++_}
-use Prim.Native.Nat.{ℕ, _+_, _*_, _≤_, _<_}
+use Prim.Native.Nat.{ℕ, _+_, _-_, _*_, _%_, _≤_, _<_}
+use native.Mathlib.Nat.{add-comm, le-of-mul-le-mul-right}
 use native.Mathlib.Omega.{arith}
-use lib.ListN.{length, take, drop, set}
-use lib.Seq.{getD-take, length-take-le}
+use borrow.Author.Tests.{le-leb, lt-leb}
+use lib.Arith.{digits-div, digits-mod}
+use lib.Dec.{leb, ltb}
+use lib.ListN.{length, drop, set}
+use Rattle.model.specs.Columns.{upto, at}
 use Rattle.model.specs.Limits.{coresMost, jobsMost, slicesMost}
+use Rattle.model.specs.Packed.{packOf}
 use Rattle.model.specs.Split.{share, ticksOn}
 use Rattle.model.specs.declared.Kind.{Kind}
 use Rattle.model.specs.declared.Kind.the-variants.{First, Second}
 use Rattle.model.specs.declared.Share.{Share}
+use Rattle.model.specs.declared.Slice.{Slice}
+use Rattle.model.proofs.Columns.{upto-length, upto-at, upto-left, upto-none}
 use Rattle.model.proofs.Lists.{all-at}
-use Rattle.slices.specs.Table.{Piece, chosen, cutOf}
-use Rattle.slices.proofs.Pieces.{shareAt}
-use Rattle.planner.specs.Place.{classOf, slicesOf, written, placed, filled, CutAsks, Holds, PackAsks}
+use Rattle.slices.specs.Table.{Piece, chosen, cutOf, sliceOf}
+use Rattle.planner.specs.Place.{classOf, shareOn, sharesOn, Filling, fillingOf, written, placed, filled, passed, Sized, Asks, Stands}
 use Rattle.planner.specs.declared.place.Class.{Class}
-use Rattle.planner.specs.declared.place.Cut.{Cut}
-use Rattle.planner.specs.declared.place.Packing.{Packing}
-use Rattle.model.proofs.Walk.{left-cons}
+use Rattle.planner.specs.declared.place.Class.the-variants.{Even, Other, Alone}
+use Rattle.planner.specs.declared.place.Place.{Place}
 
-filled-grows : (k : Kind) (w : ℕ) (t : Packing) (ps : List Piece)
+-- ---- one run, by the core and the place there where it begins
+cut-some : (k : Kind) (w o : ℕ) (p : Piece) → 1 ≤ length (cutOf k w o p)
+unfolding cutOf
+cut-some k w o p = go (leb (o % w + p .ticks) w) _ _ _
+  where
+    go : (t : Bool) (x y z : Slice) → 1 ≤ length (cond t (x ∷ []) (y ∷ z ∷ []))
+    go true x y z = omega arith
+    go false x y z = omega arith
+
+module _ (k : Kind) (w job ticks : ℕ) (column : List ℕ) (p : Place) where
+  abbrev piece : Piece
+  piece = record { job = job; ticks = ticks }
+
+  abbrev pub run : Filling
+  run = placed k w (fillingOf w column p) piece
+
+  module _ (asks : Asks w column p run) where
+    run-cut : cutOf k w (p .core * w + p .at) piece
+        ≡ cond (leb (p .at + ticks) w) (sliceOf k w job (p .core) (p .at) ticks ∷ [])
+        (sliceOf k w job (p .core) (p .at) (w - p .at) ∷ sliceOf k w job (p .core + 1) 0 (ticks - (w - p .at)) ∷ [])
+    unfolding cutOf
+    run-cut = rw (digits-div (p .core) (asks .inside), digits-mod (p .core) (asks .inside))
+
+    pub run-core : p .core ≤ coresMost
+    unfolding placed
+    run-core = le-of-mul-le-mul-right {k = w} (omega (arith, asks .ends)) (omega (arith, asks .inside))
+
+    pub run-row : p .count + 1 ≤ slicesMost
+    unfolding placed
+    run-row = omega (arith, asks .rows, cut-some k w (p .core * w + p .at) piece)
+
+    pub run-rows : w < p .at + ticks → p .count + 2 ≤ slicesMost
+    unfolding placed
+    run-rows over = rw (run-cut, lt-leb _ _ over) at (asks .rows)
+
+    -- The place r is behind the run.
+    module _ (r : Place) (ends : r .core * w + r .at ≡ p .core * w + p .at + ticks) (inside : r .at < w) where
+      pub run-one : (x : ℕ) → p .at + ticks ≤ w → x ≡ packOf (sliceOf k w job (p .core) (p .at) ticks) → r .count ≡ p .count + 1
+          → Stands w run (set column (p .count) x) r
+      unfolding placed written
+      run-one x whole is count = record { is = rw (run-cut, le-leb _ _ whole, ends, is, count); inside = inside }
+
+      pub run-two : (x y : ℕ) → w < p .at + ticks → x ≡ packOf (sliceOf k w job (p .core) (p .at) (w - p .at))
+          → y ≡ packOf (sliceOf k w job (p .core + 1) 0 (ticks - (w - p .at))) → r .count ≡ p .count + 2
+          → Stands w run (set (set column (p .count) x) (p .count + 1) y) r
+      unfolding placed written
+      run-two x y over is is2 count = record { is = rw (run-cut, lt-leb _ _ over, ends, is, is2, count); inside = inside }
+
+-- ---- one job of a pass, by its ticks on the kind and on the other
+class-on : (class : Class) (k : Kind) (w a b : ℕ) → classOf class First w (share a b) ≡ classOf class k w (shareOn k a b)
+class-on class First w a b = refl
+class-on Even Second w a b = rw (and-comm (ltb 0 a) (ltb 0 b), add-comm a b)
+class-on Other Second w a b = rw (and-comm (ltb 0 a) (ltb 0 b), add-comm a b)
+class-on Alone Second w a b = rw (and-comm (ltb 0 a) (ltb 0 b))
+
+mine-on : (k : Kind) (a b : ℕ) → ticksOn k (shareOn k a b) ≡ a
+mine-on First a b = refl
+mine-on Second a b = refl
+
+both-on : (k : Kind) (a b : ℕ) → shareOn k a b .first .0 + shareOn k a b .second .0 ≡ a + b
+both-on First a b = refl
+both-on Second a b = add-comm b a
+
+module _ (class : Class) (k : Kind) (w job a b : ℕ) (t : Filling) where
+  -- The table after the job.
+  abbrev pub after : Filling
+  after = passed class k w t job (shareOn k a b ∷ [])
+
+  pub job-in : classOf class First w (share a b) ≡ true → after ≡ placed k w t (record { job = job; ticks = a })
+  unfolding chosen filled
+  job-in e = rw (sym (class-on class k w a b) ∙ e, mine-on k a b)
+
+  pub job-out : classOf class First w (share a b) ≡ false → after ≡ t
+  unfolding chosen filled
+  job-out e = rw (sym (class-on class k w a b) ∙ e)
+
+-- ---- several pieces
+filled-grows : (k : Kind) (w : ℕ) (t : Filling) (ps : List Piece)
     → (t .count ≤ filled k w t ps .count) × (t .at ≤ filled k w t ps .at)
 unfolding filled placed
 filled-grows k w t [] = (omega arith, omega arith)
@@ -29,96 +111,91 @@ filled-grows k w t (p ∷ ps) =
     let more = filled-grows k w (placed k w t p) ps in
     (omega arith, omega arith)
 
-pub filled-append : (k : Kind) (w : ℕ) (t : Packing) (ps qs : List Piece)
+pub filled-append : (k : Kind) (w : ℕ) (t : Filling) (ps qs : List Piece)
     → filled k w t (ps ++ qs) ≡ filled k w (filled k w t ps) qs
 unfolding filled
 filled-append k w t [] qs = refl
 filled-append k w t (p ∷ ps) qs = filled-append k w (placed k w t p) ps qs
 
 -- Where all pieces have room the first ones have.
-pub holds-part : (k : Kind) (w n : ℕ) (shares : List Share) (t : Packing) (ps qs : List Piece)
-    → Holds w n shares (filled k w t (ps ++ qs)) → Holds w n shares (filled k w t ps)
-holds-part k w n shares t ps qs h =
+pub asks-part : (k : Kind) {w : ℕ} {column : List ℕ} {p : Place} (t : Filling) (ps qs : List Piece)
+    → Asks w column p (filled k w t (ps ++ qs)) → Asks w column p (filled k w t ps)
+asks-part k {w} t ps qs h =
     let all = rw (filled-append k w t ps qs) at h in
     let more = filled-grows k w (filled k w t ps) qs in
-    record { sized = h .sized; rows = omega arith; ends = omega arith }
+    record { short = h .short; inside = h .inside; lent = h .lent; rows = omega arith; ends = omega arith }
 
--- What the code stores of a piece that it has cut.
-module _ (k : Kind) (w : ℕ) (t : Packing) (p : Piece) (c : Cut) (right : slicesOf c ≡ cutOf k w (t .at) p) where
-  placed-two : c .two ≡ true → placed k w t p
-      ≡ record { rows = set (set (t .rows) (t .count) (c .first)) (t .count + 1) (c .second); count = t .count + 1 + 1; at = t .at + p .ticks }
-  unfolding placed written
-  placed-two two =
-      let both : t .count + 1 + 1 ≡ t .count + 2 = omega arith in
-      rw (← right, two, both) refl
+-- What is asked at one place is asked at the next.
+asks-on : {w : ℕ} {column column2 : List ℕ} {p q : Place} {end : Filling}
+    → Asks w column p end → length column2 ≡ length column → q .at < w → Asks w column2 q end
+asks-on h same inside =
+    record { short = h .short; inside = inside; lent = omega (arith, h .lent); rows = h .rows; ends = h .ends }
 
-  placed-one : c .two ≡ false → placed k w t p
-      ≡ record { rows = set (t .rows) (t .count) (c .first); count = t .count + 1; at = t .at + p .ticks }
-  unfolding placed written
-  placed-one one = rw (← right, one) refl
+module _ (k : Kind) {w : ℕ} (t : Filling) (ps qs : List Piece) {column : List ℕ} {p : Place} (stands : Stands w (filled k w t ps) column p) where
+  rest : filled k w (fillingOf w column p) qs ≡ filled k w t (ps ++ qs)
+  rest = rw (filled-append k w t ps qs, stands .is)
 
-ticks-within : (k : Kind) (s : Share) → ticksOn k s ≤ s .first .0 + s .second .0
-ticks-within First s = omega arith
-ticks-within Second s = omega arith
+  pub asks-rest : {before : List ℕ} {q : Place} → Asks w before q (filled k w t (ps ++ qs)) → length column ≡ length before
+      → Asks w column p (filled k w (fillingOf w column p) qs)
+  asks-rest h same = rw rest (asks-on h same (stands .inside))
 
--- The table that the pieces of the jobs from i on give.
-abbrev pub Left : Class → Kind → (w n : ℕ) → List Share → Packing → ℕ → Packing
-Left class k w n shares t i = filled k w t (chosen (classOf class k w) k i (drop i (take n shares)))
+  pub stands-rest : {column2 : List ℕ} {q : Place} → Stands w (filled k w (fillingOf w column p) qs) column2 q → Stands w (filled k w t (ps ++ qs)) column2 q
+  stands-rest h = rw rest at h
 
--- One turn of the pass, at job i: what is known when it begins.
-pub record Turn (class : Class) (k : Kind) (w n : ℕ) (shares : List Share) (table now : Packing) (i : ℕ) : Type 0 where
-  pub asks : PackAsks class k w n shares table
-  pub full : length shares ≡ jobsMost
-  pub below : i < n
-  pub same : Left class k w n shares now i ≡ Left class k w n shares table 0
+-- ---- a pass over the jobs
+chosen-cons : (test : Share → Bool) (k : Kind) (i : ℕ) (s : Share) (ss : List Share)
+    → chosen test k i (s ∷ ss) ≡ chosen test k i (s ∷ []) ++ chosen test k (i + 1) ss
+unfolding chosen
+chosen-cons test k i s ss = go (test s)
+  where
+    go : (t : Bool) → cond t (record { job = i; ticks = ticksOn k s } ∷ chosen test k (i + 1) ss) (chosen test k (i + 1) ss)
+        ≡ cond t (record { job = i; ticks = ticksOn k s } ∷ []) [] ++ chosen test k (i + 1) ss
+    go true = refl
+    go false = refl
 
-module _ {class : Class} {k : Kind} {w n : ℕ} {shares : List Share} {table now : Packing} {i : ℕ}
-    (t : Turn class k w n shares table now i) where
-  pub turn-fits : shareAt shares i .first .0 + shareAt shares i .second .0 ≤ w
-  turn-fits =
-      rw (getD-take n shares i (share 0 0) (t .below)) at
-      (all-at (λ (s : Share). s .first .0 + s .second .0 ≤ w) (share 0 0) (take n shares) i
-      (rw (length-take-le n shares (omega arith)) (t .below)) (t .asks .sized .each))
+module _ (class : Class) (k : Kind) (w n : ℕ) (mine other : List ℕ) where
+  -- The table that the pieces of the jobs from i on give.
+  abbrev pub left : Filling → ℕ → Filling
+  left t i = passed class k w t i (drop i (sharesOn k n mine other))
 
-  pub turn-out : classOf class k w (shareAt shares i) ≡ false → Left class k w n shares now (i + 1) ≡ Left class k w n shares table 0
-  unfolding chosen
-  turn-out out = rw (left-cons shares n (omega arith) i (share 0 0) (t .below), out) at (t .same)
+  -- The code stands at job i, and what is left leads to the end.
+  pub record Passing (end : Filling) (column : List ℕ) (p : Place) (i : ℕ) : Type 0 where
+    pub asks : Asks w column p end
+    pub is : left (fillingOf w column p) i ≡ end
 
-  -- The job is placed, and its ticks on the kind are u.
-  module _ (u : ℕ) (is : classOf class k w (shareAt shares i) ≡ true) (ticks : u ≡ ticksOn k (shareAt shares i)) where
-    turn-in : Left class k w n shares (placed k w now (record { job = i; ticks = u })) (i + 1) ≡ Left class k w n shares table 0
-    unfolding chosen filled
-    turn-in = rw ticks (rw (left-cons shares n (omega arith) i (share 0 0) (t .below), is) at (t .same))
+  module _ (i : ℕ) (below : i < n) where
+    pub job-few : Sized w (sharesOn k n mine other) → i < jobsMost
+    job-few sized = omega (arith, sized .few, upto-length n (λ j. shareOn k (at mine j) (at other j)))
 
-    turn-room : (now .count + length (cutOf k w (now .at) (record { job = i; ticks = u })) ≤ slicesMost) × (now .at + u ≤ coresMost * w)
-    unfolding placed
-    turn-room =
-        let more =
-        filled-grows k w (placed k w now (record { job = i; ticks = u }))
-        (chosen (classOf class k w) k (i + 1) (drop (i + 1) (take n shares))) in
-        let end = turn-in in
-        (omega (arith, ap (λ (t : Packing). t .count) end), omega (arith, ap (λ (t : Packing). t .at) end))
+    pub share-within : Sized w (sharesOn k n mine other) → at mine i + at other i ≤ w
+    share-within sized =
+        let f : ℕ → Share = λ j. shareOn k (at mine j) (at other j) in
+        let each =
+        all-at (λ (s : Share). s .first .0 + s .second .0 ≤ w) (f i) (upto n f) i (rw (upto-length n f) below) (sized .each) in
+        rw (upto-at n f (f i) i below, both-on k (at mine i) (at other i)) at each
 
-    pub turn-cut : CutAsks w i (now .at) u
-    turn-cut = record {
-      some = t .asks .sized .some;
-      short = t .asks .sized .short;
-      few = omega arith;
-      within = rw ticks (omega (arith, ticks-within k (shareAt shares i), turn-fits));
-      ends = turn-room .1;
-    }
+    module _ {end : Filling} {column : List ℕ} {p : Place} (passing : Passing end column p i) where
+      abbrev this : List Piece
+      this = chosen (classOf class k w) k i (shareOn k (at mine i) (at other i) ∷ [])
 
-    -- Its run is cut, and the slices are stored.
-    module _ (c : Cut) (right : slicesOf c ≡ cutOf k w (now .at) (record { job = i; ticks = u })) where
-      pub turn-rows : now .count + length (slicesOf c) ≤ slicesMost
-      turn-rows = rw (← right) at (turn-room .0)
+      abbrev those : List Piece
+      those = chosen (classOf class k w) k (i + 1) (drop (i + 1) (sharesOn k n mine other))
 
-      pub turn-two : c .two ≡ true
-          → Left class k w n shares (record { rows = set (set (now .rows) (now .count) (c .first)) (now .count + 1) (c .second); count = now .count + 1 + 1; at = now .at + u }) (i + 1)
-          ≡ Left class k w n shares table 0
-      turn-two two = rw (placed-two k w now (record { job = i; ticks = u }) c right two) at turn-in
+      parts : filled k w (fillingOf w column p) (this ++ those) ≡ end
+      parts = rw (upto-left n (λ j. shareOn k (at mine j) (at other j)) i below, chosen-cons) at (passing .is)
 
-      pub turn-one : c .two ≡ false
-          → Left class k w n shares (record { rows = set (now .rows) (now .count) (c .first); count = now .count + 1; at = now .at + u }) (i + 1)
-          ≡ Left class k w n shares table 0
-      turn-one one = rw (placed-one k w now (record { job = i; ticks = u }) c right one) at turn-in
+      pub pass-asks : Asks w column p (after class k w i (at mine i) (at other i) (fillingOf w column p))
+      pass-asks = asks-part k (fillingOf w column p) this those (rw parts (passing .asks))
+
+      pub pass-on : (column2 : List ℕ) (q : Place) → length column2 ≡ length column
+          → Stands w (after class k w i (at mine i) (at other i) (fillingOf w column p)) column2 q → Passing end column2 q (i + 1)
+      pass-on column2 q same stands =
+          record {
+            asks = asks-on (passing .asks) same (stands .inside);
+            is = rest k (fillingOf w column p) this those stands ∙ parts;
+          }
+
+  pub pass-ends : {end : Filling} {column : List ℕ} {p : Place} → Passing end column p n → Stands w end column p
+  unfolding chosen filled
+  pass-ends passing =
+      record { is = rw (upto-none n (λ j. shareOn k (at mine j) (at other j))) at (passing .is); inside = passing .asks .inside }

@@ -1,39 +1,44 @@
 -- The promise of the planning call over lent tables, from what it knows of its callees. The walk of `plan` calls `lent` and looks at nothing else of the promise.
---     read       the array that `jobs_in` makes of the first jobs of a slice
+--     read       the column of a kind that `costs_in` makes of the first jobs of a slice
 --     few-fits   as many jobs as `at_most_a_set` gives fit a set, and are there
 --     plan-read  the plan of what was read is the plan of the slice: all of it was read, or it has too many jobs to be looked at
---     lent       the promise, of the plan by value of the jobs that were read, whose rows were written to both tables
+--     lent       the promise, of the plan by value of the costs that were read, whose rows were written to both tables
 -- Assumes nothing.
 use mathlib.Core.Path.{_≡_, refl, sym, ap, _∙_}
 use mathlib.Core.Bool.{Bool, true, false, cond, _||_}
-use mathlib.Core.List.{List, _++_}
-use Prim.Native.Nat.{ℕ, _≤_, _<_, min}
+use mathlib.Core.List.{List, _++_, map}
+use Prim.Native.Nat.{ℕ, _-_, _≤_, _<_, min}
 use native.Mathlib.Omega.{arith}
 use borrow.Author.Tests.{leb-true, leb-false, lt-ltb}
 use lib.Dec.{leb, ltb}
 use lib.ListN.{length, take, drop, replicate}
 use lib.Seq.{take-append-seam, take-length}
 use Rattle.model.specs.Board.{roomOf}
+use Rattle.model.specs.Columns.{costOn, jobsIn, seen, sharesIn as sharesFrom}
 use Rattle.model.specs.Limits.{windowMost, coresMost, jobsMost}
+use Rattle.model.specs.Packed.{slicesIn as slicesFrom}
 use Rattle.model.specs.Refusal.{Answer, given, refused, andThen}
+use Rattle.model.specs.declared.Kind.{Kind}
 use Rattle.model.specs.declared.Kind.the-variants.{First, Second}
 use Rattle.model.specs.declared.Board.{Board}
 use Rattle.model.specs.declared.Job.{Job}
 use Rattle.model.specs.declared.Share.{Share}
 use Rattle.model.specs.declared.Slice.{Slice}
+use Rattle.model.proofs.Columns.{costs-back}
 use Rattle.legal.specs.Legal.{outside, legalOf}
 use Rattle.slices.specs.Table.{tableOf}
 use Rattle.split.specs.Shares.{splitOf, sharesOf}
 use Rattle.split.proofs.Demands.{demands, exactly}
+use Rattle.split.proofs.Seen.{shares-seen}
 use Rattle.planner.specs.Plan.{Plan, Counts, fitted, planOf, sharesIn, slicesIn, countsIn, saysPlanned, front}
-use Rattle.planner.specs.Promise.{Filled, Unchanged, Served, Promised, noJob}
+use Rattle.planner.specs.Promise.{Filled, Unchanged, Served, Promised}
 use Rattle.planner.specs.declared.Planned.{Planned}
 use Rattle.planner.specs.declared.Planned.the-variants.{Plan as Counted, Refused}
 use Rattle.planner.specs.declared.Tables.{Tables}
 use Rattle.planner.proofs.Plans.{plan-kept}
 
-abbrev pub read : List Job → ℕ → List Job
-read js few = take few js ++ drop few (replicate jobsMost noJob)
+abbrev pub read : Kind → List Job → ℕ → List ℕ
+read kind js few = map (costOn kind) (take few js) ++ replicate (jobsMost - few) 0
 
 pub few-fits : (count few : ℕ) → few ≡ min count jobsMost → (few ≤ jobsMost) × (few ≤ count)
 few-fits count few e = (omega (arith, e), omega (arith, e))
@@ -66,16 +71,21 @@ plan-many board n xs ys m k h =
     go false true = refl
     go false false = refl
 
+plan-seen : (board : Board) (n : ℕ) (js : List Job) (m k : ℕ) → planOf board n (map seen js) m k ≡ planOf board n js m k
+plan-seen board n js m k =
+    ap (λ (x : Answer (List Share)). andThen x (λ (ss : List Share). fitted m k (record { shares = ss; slices = tableOf (board .window) ss })))
+    (shares-seen board n js)
+
 plan-read : (board : Board) (js : List Job) (m k few : ℕ) → few ≡ min (length js) jobsMost
-    → planOf board (length js) (take (length js) (read js few)) m k ≡ planOf board (length js) js m k
+    → planOf board (length js) (jobsIn (length js) (read First js few) (read Second js few)) m k ≡ planOf board (length js) js m k
 plan-read board js m k few e = go (leb (length js) jobsMost) refl
   where
     go : (t : Bool) → leb (length js) jobsMost ≡ t
-        → planOf board (length js) (take (length js) (read js few)) m k ≡ planOf board (length js) js m k
+        → planOf board (length js) (jobsIn (length js) (read First js few) (read Second js few)) m k ≡ planOf board (length js) js m k
     go true t =
-        let all : few ≡ length js = omega (arith, leb-true (length js) jobsMost t) in
-        ap (λ (xs : List Job). planOf board (length js) xs m k)
-        (rw (all, take-length js) (take-append-seam js (drop (length js) (replicate jobsMost noJob))))
+        let fits : length js ≤ jobsMost = leb-true (length js) jobsMost t in
+        let all : few ≡ length js = omega arith in
+        ap (λ (xs : List Job). planOf board (length js) xs m k) (rw (all, take-length js) (costs-back js fits)) ∙ plan-seen board (length js) js m k
     go false t = plan-many board (length js) _ js m k (leb-false _ _ t)
 
 -- ---- the demands
@@ -118,11 +128,12 @@ module _ (board : Board) (n : ℕ) (js : List Job) (m k : ℕ) where
   room-plan : sharesOf board n js ≡ refused 6 0 → countsIn (planOf board n js m k) ≡ refused 6 0
   room-plan e = ap (λ (x : Answer (List Share)). countsIn (andThen x made)) e
 
-pub lent : (board : Board) (js : List Job) (ss ss′ : List Share) (ls ls′ : List Slice) (few : ℕ) (set : List Job) (t : Tables)
-    → few ≡ min (length js) jobsMost → set ≡ read js few → Filled board (length js) (take (length js) set) (length ss) (length ls) t
-    → ss′ ≡ take (t .shared) (t .shares) ++ drop (t .shared) ss → ls′ ≡ take (t .sliced) (t .slices) ++ drop (t .sliced) ls
+pub lent : (board : Board) (js : List Job) (ss ss′ : List Share) (ls ls′ : List Slice) (few : ℕ) (first second : List ℕ) (t : Tables)
+    → few ≡ min (length js) jobsMost → first ≡ read First js few → second ≡ read Second js few
+    → Filled board (length js) (jobsIn (length js) first second) (length ss) (length ls) t
+    → ss′ ≡ sharesFrom (t .shared) (t .first) (t .second) ++ drop (t .shared) ss → ls′ ≡ slicesFrom (t .sliced) (t .slices) ++ drop (t .sliced) ls
     → Promised board js ss ls (t .planned) ss′ ls′
-lent board js ss ss′ ls ls′ few set t few-is set-is filled shares-are slices-are =
+lent board js ss ss′ ls ls′ few first second t few-is first-is second-is filled shares-are slices-are =
     record {
       answer = answer;
       shares = shares;
@@ -147,8 +158,8 @@ lent board js ss ss′ ls ls′ few set t few-is set-is filled shares-are slices
     k : ℕ
     k = length ls
 
-    same : planOf board n (take n set) m k ≡ planOf board n js m k
-    same = ap (λ (l : List Job). planOf board n (take n l) m k) set-is ∙ plan-read board js m k few few-is
+    same : planOf board n (jobsIn n first second) m k ≡ planOf board n js m k
+    same = rw (first-is, second-is) (plan-read board js m k few few-is)
 
     answer : saysPlanned (t .planned) ≡ countsIn (planOf board n js m k)
     answer = filled .says ∙ ap countsIn same
@@ -156,13 +167,13 @@ lent board js ss ss′ ls ls′ few set t few-is set-is filled shares-are slices
     shares : ss′ ≡ front (sharesIn (planOf board n js m k)) ss
     shares =
         shares-are ∙
-        rw (filled .shares, filled .shared, take-append-seam (sharesIn (planOf board n (take n set) m k)) _)
+        rw (filled .shares, filled .shared)
         (ap (λ (x : Answer Plan). front (sharesIn x) ss) same)
 
     slices : ls′ ≡ front (slicesIn (planOf board n js m k)) ls
     slices =
         slices-are ∙
-        rw (filled .slices, filled .sliced, take-append-seam (slicesIn (planOf board n (take n set) m k)) _)
+        rw (filled .slices, filled .sliced)
         (ap (λ (x : Answer Plan). front (slicesIn x) ls) same)
 
     both : Stands board js ss ss′ ls ls′ (t .planned)

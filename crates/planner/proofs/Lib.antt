@@ -1,9 +1,9 @@
-pub mod Copied
-pub mod CopyRows
+pub mod Counted
 pub mod Slot
 pub mod Filling
 pub mod Rows
 pub mod Plans
+pub mod Columned
 pub mod Moving
 pub mod Lent
 pub mod Determined

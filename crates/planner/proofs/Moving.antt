@@ -7,7 +7,7 @@
 -- Assumes nothing.
 use mathlib.Core.Path.{_≡_, refl, sym, ap, _∙_}
 use mathlib.Core.Bool.{Bool, true, false}
-use mathlib.Core.List.{List, [], _∷_, _++_, append-assoc}
+use mathlib.Core.List.{List, [], _∷_, _++_, map, append-assoc}
 use Prim.Native.Nat.{ℕ, zero, suc, _+_, _-_, _*_, _≤_, _<_}
 use native.Mathlib.Nat.{mul-le-mul}
 use native.Mathlib.Numerals.{add-one}
@@ -15,9 +15,10 @@ use native.Mathlib.Omega.{arith}
 use borrow.Author.Tests.{ltb-true, ltb-false, le-ltb}
 use lib.Dec.{ltb}
 use lib.ListN.{length, take, set, replicate, length-append}
-use lib.Seq.{take-at, set-at}
+use lib.Seq.{set-at}
 use Rattle.model.specs.Limits.{jobsMost, slicesMost}
 use Rattle.model.specs.Lists.{All, sumOf}
+use Rattle.model.specs.Packed.{sliceIn}
 use Rattle.model.specs.Refusal.{Answer, given, refused, andThen}
 use Rattle.model.specs.Split.{Do}
 use Rattle.model.specs.declared.Board.{Board}
@@ -36,10 +37,10 @@ use Rattle.slices.proofs.OncePerCore.{table-once}
 use Rattle.split.specs.Shares.{sharesOf}
 use Rattle.split.proofs.Demands.{shares-numbered}
 use Rattle.planner.specs.Moving.{movesBelow, movesIn, outers, inners, noMoves, roomyPlan, Moving}
-use Rattle.planner.specs.Place.{noSlice}
-use Rattle.planner.specs.Plan.{Plan, fitted, planOf, sharesIn, slicesIn}
+use Rattle.planner.specs.Plan.{Plan, fitted, planOf, sharesIn, slicesIn, countsIn}
 use Rattle.planner.specs.Promise.{Filled}
 use Rattle.planner.specs.declared.Tables.{Tables}
+use Rattle.planner.proofs.Columned.{slices-take}
 use Rattle.planner.proofs.Plans.{shares-lawful, shares-accepted, accepted-fits, accepted-few, plan-shares, plan-kept}
 
 -- ---- the list of moves
@@ -68,15 +69,23 @@ unfolding movesBelow
 moves-in (given p) = refl
 moves-in (refused number place) = refl
 
-pub moving-filled : (board : Board) (n : ℕ) (js : List Job) (t : Tables) (moves : List Moves) → Filled board n js jobsMost slicesMost t
-    → moves ≡ movesBelow (take (t .sliced) (t .slices)) (t .shared) ++ replicate (jobsMost - t .shared) noMoves
+-- The tables are of the jobs ks that columns say, whose shares are those of the jobs js.
+pub moving-filled : (board : Board) (n : ℕ) (ks js : List Job) (t : Tables) (rows : List Slice) (moves : List Moves)
+    → sharesOf board n ks ≡ sharesOf board n js → Filled board n ks jobsMost slicesMost t
+    → t .sliced ≤ length (t .slices) → rows ≡ map sliceIn (t .slices)
+    → moves ≡ movesBelow (take (t .sliced) rows) (t .shared) ++ replicate (jobsMost - t .shared) noMoves
     → Moving board n js (record { planned = t .planned; moves = moves })
-moving-filled board n js t moves f e =
-    let x : Answer Plan = roomyPlan board n js in
-    let rows : take (t .sliced) (t .slices) ≡ slicesIn x = rw (f .slices) (take-at (slicesIn x) (replicate (slicesMost - t .sliced) noSlice) (t .sliced) (sym (f .sliced))) in
-    let all : movesBelow (take (t .sliced) (t .slices)) (t .shared) ≡ movesIn x = rw (rows, f .shared) (sym (moves-in x)) in
+moving-filled board n ks js t rows moves same f there rows-are e =
+    let x : Answer Plan = roomyPlan board n ks in
+    let plan : x ≡ roomyPlan board n js =
+    ap (λ (y : Answer (List Share)). andThen y (λ (ss : List Share). fitted jobsMost slicesMost (record { shares = ss; slices = tableOf (board .window) ss }))) same in
+    let slices : take (t .sliced) rows ≡ slicesIn x = rw (rows-are, ← slices-take (t .sliced) (t .slices) there) (f .slices) in
+    let all : movesBelow (take (t .sliced) rows) (t .shared) ≡ movesIn x = rw (slices, f .shared) (sym (moves-in x)) in
     let count : t .shared ≡ length (movesIn x) = f .shared ∙ sym (ap length (moves-in x) ∙ below-length (slicesIn x) (length (sharesIn x))) in
-    record { says = f .says; moves = e ∙ rw (all, count) }
+    record {
+      says = f .says ∙ ap countsIn plan;
+      moves = e ∙ rw (all, count) (ap (λ (y : Answer Plan). movesIn y ++ replicate (jobsMost - length (movesIn y)) noMoves) plan);
+    }
 
 -- ---- the moves of a plan
 -- A job whose work is done has a share, since its cost is at least 1.

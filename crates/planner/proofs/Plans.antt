@@ -1,30 +1,24 @@
 -- The plan of a set: what is known of its shares lets them be placed, and a plan keeps demand 2. Assumes nothing.
 --   accepted-fits   accepted shares fit the board, so that their table is a timetable
 --   table-asks      what the code asks before it places them
---   filled-none, filled-fit   the tables of a refusal and of a plan are those of the definition
 --   plan-shares     a plan is made of the shares that are given, and plan-kept: it keeps demand 2
 use mathlib.Core.Path.{_≡_, refl, sym, ap, _∙_}
 use mathlib.Core.Bool.{Bool, true, false, cond, _||_}
-use mathlib.Core.List.{List, [], _∷_, _++_}
-use Prim.Native.Nat.{ℕ, _+_, _-_, _*_, _≤_}
+use mathlib.Core.List.{List, [], _∷_}
+use Prim.Native.Nat.{ℕ, _+_, _*_, _≤_}
 use native.Mathlib.Nat.{mul-le-mul-right}
 use native.Mathlib.Omega.{arith}
-use borrow.Author.Tests.{ltb-false}
 use lib.Dec.{ltb}
-use lib.ListN.{length, take, drop, replicate, take-append-drop}
-use lib.Seq.{length-take-le}
+use lib.ListN.{length}
 use Rattle.model.specs.Board.{roomOf}
-use Rattle.model.specs.Limits.{jobsMost, slicesMost}
 use Rattle.model.specs.Lists.{All}
-use Rattle.model.specs.Refusal.{Answer, given, refused, saysRefusal, andThen}
-use Rattle.model.specs.Split.{share, Do}
+use Rattle.model.specs.Refusal.{Answer, given, refused, andThen}
+use Rattle.model.specs.Split.{Do}
 use Rattle.model.specs.declared.Kind.{Kind}
 use Rattle.model.specs.declared.Kind.the-variants.{First, Second}
 use Rattle.model.specs.declared.Board.{Board}
 use Rattle.model.specs.declared.Job.{Job}
 use Rattle.model.specs.declared.Job.the-variants.{Both, OnlyFirst, OnlySecond}
-use Rattle.model.specs.declared.Refusal.{Refusal}
-use Rattle.model.specs.declared.Refusal.the-variants.{Space}
 use Rattle.model.specs.declared.Share.{Share}
 use Rattle.model.proofs.Splits.{do-length}
 use Rattle.legal.specs.Lawful.{Lawful}
@@ -37,10 +31,9 @@ use Rattle.slices.proofs.Timetabled.{table-timetable}
 use Rattle.split.specs.Promise.{Accepted}
 use Rattle.split.specs.Shares.{splitOf, sharesOf}
 use Rattle.split.proofs.Demands.{demands}
-use Rattle.planner.specs.Place.{noSlice, TableAsks, Tabled}
-use Rattle.planner.specs.Plan.{Plan, fitted, planOf, sharesIn, slicesIn, countsIn, noTables, fitOf}
-use Rattle.planner.specs.Promise.{Filled, Kept}
-use Rattle.planner.specs.declared.place.Packing.{Packing}
+use Rattle.planner.specs.Place.{TableAsks}
+use Rattle.planner.specs.Plan.{Plan, fitted, planOf}
+use Rattle.planner.specs.Promise.{Kept}
 
 -- ---- accepted shares
 abbrev Each : ℕ → List Share → Type 0
@@ -95,23 +88,19 @@ module _ (board : Board) (n : ℕ) (js : List Job) where
           few = accepted-few;
         }
 
-  -- What the code asks before it places the first shares of an array.
-  pub table-asks : (shares : List Share) (count : ℕ) → length js ≤ jobsMost → count ≤ jobsMost → sharesOf board n js ≡ given (take count shares)
-      → TableAsks (board .window) count shares
-  table-asks shares count short few e =
-      let ss = take count shares in
+  -- What the code asks before it places them.
+  pub table-asks : {ss : List Share} → length js ≡ n → sharesOf board n js ≡ given ss → TableAsks (board .window) ss
+  table-asks {ss} size e =
       let law = shares-lawful e in
       let ok = shares-accepted e in
       record {
-        sized = record {
-          some = law .window-some;
-          short = law .window-most;
-          few = few;
-          each = do-each (board .window) js ss (ok .whole .does);
-        };
+        some = law .window-some;
+        short = law .window-most;
+        few = omega (arith, law .few, do-length (board .window) 1 js ss (ok .whole .does));
+        each = do-each (board .window) js ss (ok .whole .does);
         within1 = omega (arith, ok .whole .within1, mul-le-mul-right (board .window) (law .first-most));
         within2 = omega (arith, ok .whole .within2, mul-le-mul-right (board .window) (law .second-most));
-        rows = omega (arith, accepted-few ss law ok, law .first-most, law .second-most);
+        rows = omega (arith, law .few, accepted-few ss law ok, law .first-most, law .second-most);
       }
 
   module _ (m k : ℕ) where
@@ -139,51 +128,3 @@ module _ (board : Board) (n : ℕ) (js : List Job) where
     plan-kept {p} e =
         let made = plan-shares e in
         rw (made .1) (kept (p .shares) (shares-lawful (made .0)) (shares-accepted (made .0)))
-
-    -- ---- the code's tables
-    pub filled-none : (r : Refusal) → saysRefusal r ≡ planOf board n js m k → Filled board n js m k (noTables r)
-    filled-none r e =
-        record {
-          says = ap countsIn e;
-          shared = ap (λ (x : Answer Plan). length (sharesIn x)) e;
-          sliced = ap (λ (x : Answer Plan). length (slicesIn x)) e;
-          shares = ap (λ (x : Answer Plan). sharesIn x ++ replicate jobsMost (share 0 0)) e;
-          slices = ap (λ (x : Answer Plan). slicesIn x ++ replicate slicesMost noSlice) e;
-          few-shares = omega arith;
-          fit-shares = omega arith;
-          few-slices = omega arith;
-          fit-slices = omega arith;
-        }
-
-    module _ (shares : List Share) (count : ℕ) (table : Packing) (full : length shares ≡ jobsMost) (few : count ≤ jobsMost)
-        (rest : drop count shares ≡ replicate (jobsMost - count) (share 0 0)) (is : sharesOf board n js ≡ given (take count shares))
-        (tabled : Tabled (board .window) (take count shares) table) (short : table .count ≤ slicesMost) where
-      abbrev made : Plan
-      made = record { shares = take count shares; slices = tableOf (board .window) (take count shares) }
-
-      size : length (take count shares) ≡ count
-      size = length-take-le count shares (omega arith)
-
-      plan-is : planOf board n js m k ≡ cond (ltb m count || ltb k (table .count)) (refused 7 0) (given made)
-      plan-is = rw (is, size, ← tabled .count)
-
-      pub filled-fit : Filled board n js m k (fitOf shares count table m k)
-      filled-fit = go (ltb m count) (ltb k (table .count)) refl refl plan-is
-        where
-          go : (s t : Bool) → ltb m count ≡ s → ltb k (table .count) ≡ t → planOf board n js m k ≡ cond (s || t) (refused 7 0) (given made)
-              → Filled board n js m k (cond (s || t) (noTables Space)
-              (record { planned = Rattle.planner.specs.declared.Planned.the-variants.Plan count (table .count); shares = shares; shared = count; slices = table .rows; sliced = table .count }))
-          go true t a b e = filled-none Space (sym e)
-          go false true a b e = filled-none Space (sym e)
-          go false false a b e =
-              record {
-                says = sym (ap countsIn e ∙ rw (size, ← tabled .count));
-                shared = sym (ap (λ (x : Answer Plan). length (sharesIn x)) e ∙ size);
-                sliced = tabled .count ∙ sym (ap (λ (x : Answer Plan). length (slicesIn x)) e);
-                shares = sym (ap (λ (x : Answer Plan). sharesIn x ++ replicate (jobsMost - count) (share 0 0)) e ∙ ap (λ (l : List Share). take count shares ++ l) (sym rest) ∙ take-append-drop count shares);
-                slices = tabled .rows ∙ sym (ap (λ (x : Answer Plan). slicesIn x ++ replicate (slicesMost - table .count) noSlice) e);
-                few-shares = few;
-                fit-shares = ltb-false _ _ a;
-                few-slices = short;
-                fit-slices = ltb-false _ _ b;
-              }

@@ -1,12 +1,13 @@
 -- The rows of a table that is filled: they are the slices of the definition, one behind the other, and the rest is as it was.
 -- One idea: to write one list of rows and then another behind it is to write both. Assumes nothing.
 use mathlib.Core.Path.{_≡_, refl, sym, ap, _∙_}
-use mathlib.Core.List.{List, [], _∷_, _++_, append-assoc}
-use Prim.Native.Nat.{ℕ, zero, suc, _+_, _-_, _*_, _≤_}
+use mathlib.Core.List.{List, [], _∷_, _++_, map, map-append, append-assoc}
+use Prim.Native.Nat.{ℕ, suc, _+_, _*_, _≤_}
 use native.Mathlib.Omega.{arith}
-use lib.ListN.{length, take, set, replicate, length-append}
+use lib.ListN.{length, drop, set, length-append, length-map}
 use lib.Seq.{set-at}
 use Rattle.model.specs.Limits.{coresMost, slicesMost}
+use Rattle.model.specs.Packed.{packOf}
 use Rattle.model.specs.Split.{ticksOf}
 use Rattle.model.specs.declared.Kind.{Kind}
 use Rattle.model.specs.declared.Kind.the-variants.{First, Second}
@@ -15,29 +16,27 @@ use Rattle.model.specs.declared.Slice.{Slice}
 use Rattle.slices.specs.Table.{Piece, cutOf, packed, piecesOf, tableOf}
 use Rattle.slices.proofs.Packs.{total}
 use Rattle.slices.proofs.Pieces.{pieces-total}
-use Rattle.planner.specs.Place.{noSlice, written, placed, filled, fresh, KindAsks, TableAsks, Tabled}
-use Rattle.planner.specs.declared.place.Packing.{Packing}
+use Rattle.planner.specs.Place.{Filling, fillingOf, begun, written, placed, filled, Asks, Rowed, TableAsks, Tabled}
 
-written-append : (rows : List Slice) (i : ℕ) (ss ts : List Slice) → written rows i (ss ++ ts) ≡ written (written rows i ss) (i + length ss) ts
+written-append : (rows : List ℕ) (i : ℕ) (xs ys : List ℕ) → written rows i (xs ++ ys) ≡ written (written rows i xs) (i + length xs) ys
 unfolding written
-written-append rows i [] ts = let e : i + 0 ≡ i = omega arith in rw e
-written-append rows i (s ∷ ss) ts =
-    let e : i + suc (length ss) ≡ i + 1 + length ss = omega arith in
-    rw e (written-append (set rows i s) (i + 1) ss ts)
+written-append rows i [] ys = let e : i + 0 ≡ i = omega arith in rw e
+written-append rows i (x ∷ xs) ys =
+    let e : i + suc (length xs) ≡ i + 1 + length xs = omega arith in
+    rw e (written-append (set rows i x) (i + 1) xs ys)
 
--- Rows that follow those that are done, in a table whose other rows are not written.
-written-done : (m : ℕ) (done ss : List Slice) → length ss ≤ m
-    → written (done ++ replicate m noSlice) (length done) ss ≡ done ++ (ss ++ replicate (m - length ss) noSlice)
+-- Rows that follow those that are done.
+written-done : (done rest xs : List ℕ) → length xs ≤ length rest
+    → written (done ++ rest) (length done) xs ≡ done ++ (xs ++ drop (length xs) rest)
 unfolding written
-written-done m done [] h = let e : m - 0 ≡ m = omega arith in rw e
-written-done zero done (s ∷ ss) h = absurd (omega arith)
-written-done (suc m) done (s ∷ ss) h =
-    let e : suc m - suc (length ss) ≡ m - length ss = omega arith in
-    rw (e, set-at done noSlice (replicate m noSlice) s (length done) refl)
-    (simp (append-assoc, length-append) at (written-done m (done ++ s ∷ []) ss (omega arith)))
+written-done done rest [] h = refl
+written-done done [] (x ∷ xs) h = absurd (omega arith)
+written-done done (y ∷ rest) (x ∷ xs) h =
+    rw (set-at done y rest x (length done) refl)
+    (simp (append-assoc, length-append) at (written-done (done ++ x ∷ []) rest xs (omega arith)))
 
-filled-packed : (k : Kind) (w : ℕ) (t : Packing) (ps : List Piece) → filled k w t ps
-    ≡ record { rows = written (t .rows) (t .count) (packed k w (t .at) ps); count = t .count + length (packed k w (t .at) ps); at = t .at + total ps }
+filled-packed : (k : Kind) (w : ℕ) (t : Filling) (ps : List Piece) → filled k w t ps
+    ≡ record { rows = written (t .rows) (t .count) (map packOf (packed k w (t .at) ps)); count = t .count + length (packed k w (t .at) ps); at = t .at + total ps }
 unfolding filled placed packed written
 filled-packed k w t [] =
     let e : t .count + 0 ≡ t .count = omega arith in
@@ -48,43 +47,56 @@ filled-packed k w t (p ∷ ps) =
     let more : List Slice = packed k w (t .at + p .ticks) ps in
     let e : t .count + (length cut + length more) ≡ t .count + length cut + length more = omega arith in
     let f : t .at + (p .ticks + total ps) ≡ t .at + p .ticks + total ps = omega arith in
-    rw (length-append cut more, e, f, written-append (t .rows) (t .count) cut more) (filled-packed k w (placed k w t p) ps)
+    rw (length-append cut more, e, f, map-append packOf cut more, written-append (t .rows) (t .count) (map packOf cut) (map packOf more), length-map cut packOf)
+    (filled-packed k w (placed k w t p) ps)
 
-abbrev pub empty : Packing
-empty = record { rows = replicate slicesMost noSlice; count = 0; at = 0 }
+-- The two kinds, one behind the other.
+module _ (w : ℕ) (ss : List Share) (asks : TableAsks w ss) where
+  abbrev slices : Kind → List Slice
+  slices k = packed k w 0 (piecesOf k w ss)
 
--- The two kinds, from an empty table.
-module _ (w n : ℕ) (shares : List Share) (asks : TableAsks w n shares) where
-  kind-holds : (k : Kind) (t : Packing) → ticksOf k (take n shares) ≤ coresMost * w
-      → t .count + length (packed k w 0 (piecesOf k w (take n shares))) ≤ slicesMost → KindAsks k w n shares t
-  kind-holds k t ends rows =
-      rw (filled-packed k w (fresh t) (piecesOf k w (take n shares)))
-      (record { sized = asks .sized; rows = rows; ends = omega (arith, pieces-total k w (take n shares)) })
+  abbrev pub kind : Kind → List ℕ → ℕ → Filling
+  kind k column count = filled k w (fillingOf w column (begun count)) (piecesOf k w ss)
 
-  table-length : length (packed First w 0 (piecesOf First w (take n shares))) + length (packed Second w 0 (piecesOf Second w (take n shares))) ≤ slicesMost
+  kind-packed : (k : Kind) (column : List ℕ) (count : ℕ)
+      → kind k column count ≡ record { rows = written column count (map packOf (slices k)); count = count + length (slices k); at = ticksOf k ss }
+  kind-packed k column count =
+      let start : 0 * w + 0 ≡ 0 = omega arith in
+      let none : 0 + total (piecesOf k w ss) ≡ ticksOf k ss = omega (arith, pieces-total k w ss) in
+      rw start (rw none at (filled-packed k w (record { rows = column; count = count; at = 0 }) (piecesOf k w ss)))
+
+  table-length : length (slices First) + length (slices Second) ≤ slicesMost
   unfolding tableOf
   table-length = rw length-append at (asks .rows)
 
-  pub first-asks : KindAsks First w n shares empty
-  first-asks = kind-holds First empty (asks .within1) (omega (arith, table-length))
+  kind-asks : (k : Kind) (column : List ℕ) (count : ℕ) → ticksOf k ss ≤ coresMost * w → slicesMost ≤ length column
+      → count + length (slices k) ≤ slicesMost → Asks w column (begun count) (kind k column count)
+  kind-asks k column count ends lent rows =
+      rw (kind-packed k column count) (record { short = asks .short; inside = asks .some; lent = lent; rows = rows; ends = ends })
 
-  module _ (first : Packing) (filled1 : first ≡ filled First w (fresh empty) (piecesOf First w (take n shares))) where
-    pub second-asks : KindAsks Second w n shares first
-    second-asks =
-        kind-holds Second first (asks .within2)
-        (omega (arith, table-length, ap (λ (t : Packing). t .count) (filled1 ∙ filled-packed First w (fresh empty) (piecesOf First w (take n shares)))))
+  module _ (before : List ℕ) (lent : slicesMost ≤ length before) where
+    pub first-asks : Asks w before (begun 0) (kind First before 0)
+    first-asks = kind-asks First before 0 (asks .within1) lent (omega (arith, table-length))
 
-    pub table-filled : (r : Packing) → r ≡ filled Second w (fresh first) (piecesOf Second w (take n shares)) → Tabled w (take n shares) r
-    unfolding tableOf
-    table-filled r filled2 =
-        let ss : List Share = take n shares in
-        let one = packed First w 0 (piecesOf First w ss) in
-        let two = packed Second w 0 (piecesOf Second w ss) in
-        let e = filled1 ∙ filled-packed First w (fresh empty) (piecesOf First w ss) in
-        let f = filled2 ∙ filled-packed Second w (fresh first) (piecesOf Second w ss) in
-        let count : r .count ≡ length (one ++ two) = rw length-append (omega (arith, ap (λ (t : Packing). t .count) e, ap (λ (t : Packing). t .count) f)) in
-        record {
-          count = count;
-          rows = rw (ap (λ (t : Packing). t .rows) f, ap (λ (t : Packing). t .rows) e, ap (λ (t : Packing). t .count) e, count)
-              (sym (written-append (empty .rows) 0 one two) ∙ written-done slicesMost [] (one ++ two) (asks .rows));
-        }
+    module _ (column : List ℕ) (count : ℕ) (one : Rowed (kind First before 0) column count) where
+      count-one : count ≡ length (slices First)
+      count-one = omega (arith, one .count ∙ ap (λ (t : Filling). t .count) (kind-packed First before 0))
+
+      pub second-asks : length column ≡ length before → Asks w column (begun count) (kind Second column count)
+      second-asks same = kind-asks Second column count (asks .within2) (omega arith) (omega (arith, table-length, count-one))
+
+      pub table-filled : (after : List ℕ) (r : ℕ) → Rowed (kind Second column count) after r → Tabled w ss before after r
+      unfolding tableOf
+      table-filled after r two =
+          let xs = map packOf (slices First) in
+          let ys = map packOf (slices Second) in
+          let number : r ≡ length (slices First ++ slices Second) =
+          rw length-append (omega (arith, count-one, two .count ∙ ap (λ (t : Filling). t .count) (kind-packed Second column count))) in
+          let next : count ≡ 0 + length xs = omega (arith, count-one, length-map (slices First) packOf) in
+          let many : r ≡ length (xs ++ ys) = number ∙ sym (length-map (slices First ++ slices Second) packOf) ∙ ap length (map-append packOf (slices First) (slices Second)) in
+          record {
+            count = number;
+            slices = two .rows ∙ ap (λ (t : Filling). t .rows) (kind-packed Second column count)
+                ∙ rw (one .rows ∙ ap (λ (t : Filling). t .rows) (kind-packed First before 0), next, map-append packOf (slices First) (slices Second), many)
+                (sym (written-append before 0 xs ys) ∙ written-done [] before (xs ++ ys) (omega (arith, many, number, asks .rows)));
+          }

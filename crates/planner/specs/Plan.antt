@@ -5,17 +5,18 @@
 --   sharesIn, slicesIn   the rows to be written: none where the set is refused
 --   countsIn     what the planning call answers: the counts of both
 --   saysPlanned  what the code's answer says, in document 01's terms
---   noTables, fitOf      the code's tables of a refusal, and of shares and a table of slices that may have too many rows
+--   short        columns of which one is too short for the plan of some set
+--   columnsOf    the plan of any set, for columns: refusal 7 where one is short
+--   noRows, fitOf        what the code makes of an answer for lent tables: refusal 7 where one has too few rows
 --   front        a lent table with new rows at its front: the others stay as they were
 -- Assumes nothing.
-use mathlib.Core.Bool.{cond, _||_}
+use mathlib.Core.Bool.{Bool, cond, _||_}
 use mathlib.Core.List.{List, [], _++_}
 use Prim.Native.Nat.{ℕ}
 use lib.Dec.{ltb}
-use lib.ListN.{length, drop, replicate}
+use lib.ListN.{length, drop}
 use Rattle.model.specs.Limits.{jobsMost, slicesMost}
 use Rattle.model.specs.Refusal.{Answer, given, refused, saysRefusal, andThen}
-use Rattle.model.specs.Split.{share}
 use Rattle.model.specs.declared.Board.{Board}
 use Rattle.model.specs.declared.Job.{Job}
 use Rattle.model.specs.declared.Refusal.{Refusal}
@@ -24,9 +25,7 @@ use Rattle.model.specs.declared.Share.{Share}
 use Rattle.model.specs.declared.Slice.{Slice}
 use Rattle.slices.specs.Table.{tableOf}
 use Rattle.split.specs.Shares.{sharesOf}
-use Rattle.planner.specs.Place.{noSlice}
-use Rattle.planner.specs.declared.place.Packing.{Packing}
-use Rattle.planner.specs.declared.Tables.{Tables}
+use Rattle.planner.specs.declared.Fitted.{Fitted}
 use Rattle.planner.specs.declared.Planned.{Planned}
 use Rattle.planner.specs.declared.Planned.the-variants.{Plan as Counted, Refused}
 
@@ -61,20 +60,22 @@ abbrev pub saysPlanned : Planned → Answer Counts
 saysPlanned (Counted jobs slices) = given (record { jobs = jobs; slices = slices })
 saysPlanned (Refused r) = saysRefusal r
 
-abbrev pub noTables : Refusal → Tables
-noTables r =
-    record {
-      planned = Refused r;
-      shares = replicate jobsMost (share 0 0);
-      shared = 0;
-      slices = replicate slicesMost noSlice;
-      sliced = 0;
-    }
+-- Columns of m1 and m2 ticks and k slices that cannot hold the plan of every set.
+abbrev pub short : (m1 m2 k : ℕ) → Bool
+short m1 m2 k = ltb m1 jobsMost || ltb m2 jobsMost || ltb k slicesMost
 
-abbrev pub fitOf : (shares : List Share) (n : ℕ) (table : Packing) (m k : ℕ) → Tables
-fitOf shares n table m k =
-    cond (ltb m n || ltb k (table .count)) (noTables Space)
-    (record { planned = Counted n (table .count); shares = shares; shared = n; slices = table .rows; sliced = table .count })
+abbrev pub columnsOf : Board → ℕ → List Job → (m1 m2 k : ℕ) → Answer Plan
+columnsOf board n js m1 m2 k =
+    andThen (sharesOf board n js)
+    (λ (ss : List Share). cond (short m1 m2 k) (refused 7 0) (given (record { shares = ss; slices = tableOf (board .window) ss })))
+
+abbrev pub noRows : Refusal → Fitted
+noRows r = record { planned = Refused r; shared = 0; sliced = 0 }
+
+abbrev pub fitOf : Planned → (m k : ℕ) → Fitted
+fitOf (Refused r) m k = noRows r
+fitOf (Counted jobs rows) m k =
+    cond (ltb m jobs || ltb k rows) (noRows Space) (record { planned = Counted jobs rows; shared = jobs; sliced = rows })
 
 abbrev pub front : {A : Type 0} → List A → List A → List A
 front new old = new ++ drop (length new) old

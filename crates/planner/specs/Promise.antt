@@ -1,6 +1,7 @@
 -- What the planning call promises.
---   noJob, noSlice   what stands in rows that are not used
---   Filled       the plan by value: the answer, and every row of both tables
+--   noJob        a job that no set has
+--   Columned     the plan in columns: the answer, and every number of each column
+--   Filled       the plan by value: the answer, and the rows that are to be written
 --   Unchanged    demand 1: a refusal changes no row of the lent tables
 --   Kept         what demand 2 says of a plan: its shares are a split in whole ticks, at most m1 + m2 of them move and at most one mover is
 --                not even, and its rows are a timetable of them, at most n + 2·(m1 + m2) − 2
@@ -8,16 +9,18 @@
 --   ForRoom      demand 3: a refusal for room, and when exactly it is given
 --   Promised     the lent planning call: the answer, every row of both tables, and the three demands in their own words
 -- Assumes nothing.
-use mathlib.Core.List.{List, _++_}
+use mathlib.Core.List.{List, map}
 use mathlib.Core.Logic.{_↔_}
 use mathlib.Core.Path.{_≡_}
-use Prim.Native.Nat.{ℕ, _+_, _-_, _*_, _≤_}
-use lib.ListN.{length, take, replicate}
+use Prim.Native.Nat.{ℕ, _+_, _*_, _≤_}
+use lib.ListN.{length, take}
 use Rattle.model.specs.Board.{roomOf}
 use Rattle.model.specs.Limits.{jobsMost, slicesMost}
 use Rattle.model.specs.Movers.{movers, unevens}
 use Rattle.model.specs.Refusal.{given, refused}
-use Rattle.model.specs.Split.{share, Whole}
+use Rattle.model.specs.Columns.{sharesIn as sharesFrom}
+use Rattle.model.specs.Packed.{packOf, slicesIn as slicesFrom}
+use Rattle.model.specs.Split.{ticksOn, Whole}
 use Rattle.model.specs.Timetable.{Timetable}
 use Rattle.model.specs.declared.Kind.the-variants.{First, Second}
 use Rattle.model.specs.declared.Board.{Board}
@@ -27,8 +30,7 @@ use Rattle.model.specs.declared.Share.{Share}
 use Rattle.model.specs.declared.Slice.{Slice}
 use Rattle.legal.specs.Legal.{legalOf}
 use Rattle.split.specs.Promise.{SplitOn, SmallerSplit, stretchedOn}
-use Rattle.planner.specs.Plan.{planOf, sharesIn, slicesIn, countsIn, saysPlanned, front}
-use Rattle.planner.specs.Place.{noSlice}
+use Rattle.planner.specs.Plan.{planOf, columnsOf, sharesIn, slicesIn, countsIn, saysPlanned, front}
 use Rattle.planner.specs.declared.Planned.{Planned}
 use Rattle.planner.specs.declared.Planned.the-variants.{Plan, Refused}
 use Rattle.planner.specs.declared.Tables.{Tables}
@@ -36,13 +38,20 @@ use Rattle.planner.specs.declared.Tables.{Tables}
 abbrev pub noJob : Job
 noJob = OnlyFirst (record { 0 = 0 })
 
--- For tables of m shares and k slices. Rows that the plan does not have are zero.
+-- What the columns hold before the call, and after it with a prime: new numbers at the front of each, and the others as they were.
+pub record Columned (board : Board) (n : ℕ) (js : List Job) (s1 s2 rows : List ℕ) (r : Planned) (s1′ s2′ rows′ : List ℕ) : Type 0 where
+  pub says : saysPlanned r ≡ countsIn (columnsOf board n js (length s1) (length s2) (length rows))
+  pub first : s1′ ≡ front (map (ticksOn First) (sharesIn (columnsOf board n js (length s1) (length s2) (length rows)))) s1
+  pub second : s2′ ≡ front (map (ticksOn Second) (sharesIn (columnsOf board n js (length s1) (length s2) (length rows)))) s2
+  pub slices : rows′ ≡ front (map packOf (slicesIn (columnsOf board n js (length s1) (length s2) (length rows)))) rows
+
+-- For tables of m shares and k slices: the rows that are to be written.
 pub record Filled (board : Board) (n : ℕ) (js : List Job) (m k : ℕ) (t : Tables) : Type 0 where
   pub says : saysPlanned (t .planned) ≡ countsIn (planOf board n js m k)
   pub shared : t .shared ≡ length (sharesIn (planOf board n js m k))
   pub sliced : t .sliced ≡ length (slicesIn (planOf board n js m k))
-  pub shares : t .shares ≡ sharesIn (planOf board n js m k) ++ replicate (jobsMost - t .shared) (share 0 0)
-  pub slices : t .slices ≡ slicesIn (planOf board n js m k) ++ replicate (slicesMost - t .sliced) noSlice
+  pub shares : sharesFrom (t .shared) (t .first) (t .second) ≡ sharesIn (planOf board n js m k)
+  pub slices : slicesFrom (t .sliced) (t .slices) ≡ slicesIn (planOf board n js m k)
   pub few-shares : t .shared ≤ jobsMost
   pub fit-shares : t .shared ≤ m
   pub few-slices : t .sliced ≤ slicesMost

@@ -1,17 +1,20 @@
 // The planning call: shares, then slices, into tables that the caller lends.
 //
-// `plan` is the call over lent tables; `plan_by_value` is the same over arrays, for callers that lend none. All that is worked out is worked out by value;
-// the few functions over lent records only read or write rows, one by one.
+// One core serves every caller: `plan_columns`, over columns of numbers (crate model, specs/Columns.antt and specs/Packed.antt), which callers with a text
+// call as it is. `plan` is the call over lent records: the few functions over them only read or write rows, one by one.
 mod place;
 
 ghost use mathlib.Core.Path.{_≡_};
-ghost use mathlib.Core.List.{_++_};
+ghost use mathlib.Core.List.{_++_, map};
 ghost use Prim.Native.Nat.{_-_, _≤_, min};
 ghost use lib.ListN.{length, take, drop, replicate};
+ghost use Rattle.model.specs.Columns.{costOn, jobsIn, sharesIn};
 ghost use Rattle.model.specs.Limits.{jobsMost, slicesMost};
+ghost use Rattle.model.specs.Packed.{sliceIn, slicesIn};
+ghost use Rattle.model.specs.Split.{share};
 ghost use Rattle.planner.specs.Moving.{movesBelow, noMoves, Moving};
-ghost use Rattle.planner.specs.Plan.{noTables, fitOf};
-ghost use Rattle.planner.specs.Promise.{Filled, Promised, noJob};
+ghost use Rattle.planner.specs.Plan.{fitOf, noRows, short};
+ghost use Rattle.planner.specs.Promise.{Columned, Filled, Promised};
 use model::Board;
 use model::FirstTicks;
 use model::JOBS_MOST;
@@ -22,7 +25,6 @@ use model::SLICES_MOST;
 use model::SecondTicks;
 use model::Share;
 use model::Slice;
-use place::Packing;
 use slices::Moves;
 use split::Outcome;
 
@@ -32,13 +34,21 @@ pub enum Planned {
     Refused(Refusal),
 }
 
-// What was planned, with the rows of both tables and how many of each there are. All other rows are zero.
-pub struct Tables {
-    pub planned: Planned,
-    pub shares: [Share; JOBS_MOST],
-    pub shared: usize,
-    pub slices: [Slice; SLICES_MOST],
-    pub sliced: usize,
+// What was planned for lent tables, and how many rows of each are to be written: none where it is refused.
+struct Fitted {
+    planned: Planned,
+    shared: usize,
+    sliced: usize,
+}
+
+// The same with the columns of the shares and of the slices.
+struct Tables {
+    planned: Planned,
+    shared: usize,
+    sliced: usize,
+    first: [u16; JOBS_MOST],
+    second: [u16; JOBS_MOST],
+    slices: [u64; SLICES_MOST],
 }
 
 // What was planned, with the moves of each job. All other rows are zero.
@@ -47,75 +57,141 @@ pub struct Moved {
     pub moves: [Moves; JOBS_MOST],
 }
 
-// A refusal gives no rows.
-fn refused(refusal: Refusal) -> Tables
-    ensures { λ r. ⌜ r ≡ noTables refusal ⌝ }
+// Whether columns are too short for some set.
+fn is_short(first: usize, second: usize, slices: usize) -> bool
+    ensures { λ r. ⌜ r ≡ short first second slices ⌝ }
 {
-    Tables {
+    if first < JOBS_MOST {
+        return true;
+    }
+    if second < JOBS_MOST {
+        return true;
+    }
+    slices < SLICES_MOST
+}
+
+// The first `n` numbers of a column become these ticks, and the others stay.
+fn put_ticks(ticks: [u16; JOBS_MOST], n: usize, column: &mut [u16])
+    requires { ⌜ (n ≤ jobsMost) × (n ≤ length (now column)) ⌝ }
+    ensures { λ _. ⌜ now (column .exit) ≡ take n ticks ++ drop n (now (column .entry)) ⌝ }
+{
+    let mut i: usize = 0;
+    while i < n {
+        column[i] = ticks[i];
+        i = i + 1;
+    }
+}
+
+// The plan of the first `n` jobs of two columns of costs, into columns of its shares and its slices. More than 64 jobs can be asked for, and are refused.
+// Columns that are too short for some set are refused by 7, last of all.
+pub fn plan_columns(
+    board: Board,
+    first: &[u32; JOBS_MOST],
+    second: &[u32; JOBS_MOST],
+    n: usize,
+    shares1: &mut [u16],
+    shares2: &mut [u16],
+    slices: &mut [u64],
+) -> Planned
+    ensures { λ r. ⌜ Columned board n (jobsIn n (now (first .entry)) (now (second .entry))) (now (shares1 .entry)) (now (shares2 .entry)) (now (slices .entry)) r (now (shares1 .exit)) (now (shares2 .exit)) (now (slices .exit)) ⌝ }
+{
+    let shared = split::split(board, first, second, n);
+    let outcome = shared.outcome;
+    match outcome {
+        Outcome::Refused(refusal) => Planned::Refused(refusal),
+        Outcome::Shares(count) => {
+            if is_short(shares1.len(), shares2.len(), slices.len()) {
+                return Planned::Refused(Refusal::Space);
+            }
+            let ticks1 = shared.first;
+            let ticks2 = shared.second;
+            put_ticks(ticks1, count, shares1);
+            put_ticks(ticks2, count, shares2);
+            let rows = place::table(board.window, shares1, shares2, count, slices);
+            Planned::Plan(count, rows)
+        }
+    }
+}
+
+// A refusal gives no rows.
+fn no_rows(refusal: Refusal) -> Fitted
+    ensures { λ r. ⌜ r ≡ noRows refusal ⌝ }
+{
+    Fitted {
         planned: Planned::Refused(refusal),
-        shares: [Share {
-            first: FirstTicks(0),
-            second: SecondTicks(0),
-        }; JOBS_MOST],
         shared: 0,
-        slices: [Slice {
-            job: 0,
-            kind: Kind::First,
-            core: 0,
-            start: 0,
-            length: 0,
-        }; SLICES_MOST],
         sliced: 0,
     }
 }
 
-// The plan of shares and a table, or refusal 7 where one of them has more rows than were lent.
-fn fit(
-    shares: [Share; JOBS_MOST],
-    n: usize,
-    table: Packing,
-    share_rows: usize,
-    slice_rows: usize,
-) -> Tables
-    ensures { λ r. ⌜ r ≡ fitOf shares n table «share_rows» «slice_rows» ⌝ }
+// What is planned for tables of so many rows: refusal 7 where one of them has too few.
+fn fit(planned: Planned, share_rows: usize, slice_rows: usize) -> Fitted
+    ensures { λ r. ⌜ r ≡ fitOf planned «share_rows» «slice_rows» ⌝ }
 {
-    let sliced = table.count;
-    if share_rows < n {
-        return refused(Refusal::Space);
-    }
-    if slice_rows < sliced {
-        return refused(Refusal::Space);
-    }
-    let slices = table.rows;
-    Tables {
-        planned: Planned::Plan(n, sliced),
-        shares: shares,
-        shared: n,
-        slices: slices,
-        sliced: sliced,
+    match planned {
+        Planned::Refused(refusal) => no_rows(refusal),
+        Planned::Plan(jobs, rows) => {
+            if share_rows < jobs {
+                return no_rows(Refusal::Space);
+            }
+            if slice_rows < rows {
+                return no_rows(Refusal::Space);
+            }
+            Fitted {
+                planned: Planned::Plan(jobs, rows),
+                shared: jobs,
+                sliced: rows,
+            }
+        }
     }
 }
 
-// The plan of the first `n` jobs by value, for tables of `share_rows` and `slice_rows` rows. More than 64 jobs can be asked for, and are refused.
-pub fn plan_by_value(
+// The plan of columns of costs by value, for tables of `share_rows` and `slice_rows` rows.
+fn plan_tables(
     board: Board,
-    jobs: [Job; JOBS_MOST],
+    first: [u32; JOBS_MOST],
+    second: [u32; JOBS_MOST],
     n: usize,
     share_rows: usize,
     slice_rows: usize,
 ) -> Tables
-    ensures { λ r. ⌜ Filled board n (take n jobs) «share_rows» «slice_rows» r ⌝ }
+    ensures { λ r. ⌜ Filled board n (jobsIn n first second) «share_rows» «slice_rows» r ⌝ }
 {
-    let shared = split::split(board, jobs, n);
-    let outcome = shared.outcome;
-    match outcome {
-        Outcome::Refused(refusal) => refused(refusal),
-        Outcome::Shares(count) => {
-            let shares = shared.shares;
-            let table = place::table(board.window, shares, count);
-            fit(shares, count, table, share_rows, slice_rows)
-        }
+    let mut shares1 = [0u16; JOBS_MOST];
+    let mut shares2 = [0u16; JOBS_MOST];
+    let mut slices = [0u64; SLICES_MOST];
+    let planned = plan_columns(
+        board,
+        &first,
+        &second,
+        n,
+        &mut shares1,
+        &mut shares2,
+        &mut slices,
+    );
+    let fitted = fit(planned, share_rows, slice_rows);
+    let answer = fitted.planned;
+    Tables {
+        planned: answer,
+        shared: fitted.shared,
+        sliced: fitted.sliced,
+        first: shares1,
+        second: shares2,
+        slices: slices,
     }
+}
+
+// The slices of a column.
+fn rows_of(slices: [u64; SLICES_MOST]) -> [Slice; SLICES_MOST]
+    ensures { λ r. ⌜ r ≡ map sliceIn slices ⌝ }
+{
+    let mut rows = [model::slice_in(0); SLICES_MOST];
+    let mut i: usize = 0;
+    while i < SLICES_MOST {
+        rows[i] = model::slice_in(slices[i]);
+        i = i + 1;
+    }
+    rows
 }
 
 // The moves of the first `n` jobs, by the first `sliced` rows of a table.
@@ -137,8 +213,11 @@ fn moves_below(rows: [Slice; SLICES_MOST], sliced: usize, n: usize) -> [Moves; J
 pub fn moves(board: Board, jobs: [Job; JOBS_MOST], n: usize) -> Moved
     ensures { λ r. ⌜ Moving board n (take n jobs) r ⌝ }
 {
-    let t = plan_by_value(board, jobs, n, JOBS_MOST, SLICES_MOST);
-    let rows = t.slices;
+    let first = model::costs(Kind::First, jobs, n);
+    let second = model::costs(Kind::Second, jobs, n);
+    let t = plan_tables(board, first, second, n, JOBS_MOST, SLICES_MOST);
+    let slices = t.slices;
+    let rows = rows_of(slices);
     let moves = moves_below(rows, t.sliced, t.shared);
     let planned = t.planned;
     Moved { planned, moves }
@@ -151,40 +230,51 @@ fn at_most_a_set(count: usize) -> usize
     if count < JOBS_MOST { count } else { JOBS_MOST }
 }
 
-// The first n jobs of a slice, in an array whose others are empty.
-fn jobs_in(jobs: &[Job], n: usize) -> [Job; JOBS_MOST]
+// The costs on a kind of the first n jobs of a slice, in a column.
+fn costs_in(kind: Kind, jobs: &[Job], n: usize) -> [u32; JOBS_MOST]
     requires { ⌜ (n ≤ jobsMost) × (n ≤ length (now jobs)) ⌝ }
-    ensures { λ r. ⌜ r ≡ take n (now (jobs .entry)) ++ drop n (replicate jobsMost noJob) ⌝ }
+    ensures { λ r. ⌜ r ≡ map (costOn kind) (take n (now (jobs .entry))) ++ replicate (jobsMost - n) 0 ⌝ }
 {
-    let mut set = [Job::OnlyFirst(FirstTicks(0)); JOBS_MOST];
+    let mut column = [0u32; JOBS_MOST];
     let mut i: usize = 0;
     while i < n {
-        set[i] = jobs[i];
+        let cost = model::cost(kind, jobs[i]);
+        column[i] = cost;
         i += 1;
     }
-    set
+    column
 }
 
-// The first n rows of a share table become the array's, and the others stay.
-fn put_shares(table: &mut [Share], rows: [Share; JOBS_MOST], n: usize)
+// The share of its ticks on each kind.
+fn share_of(first: u16, second: u16) -> Share
+    ensures { λ r. ⌜ r ≡ share first second ⌝ }
+{
+    Share {
+        first: FirstTicks(first as u32),
+        second: SecondTicks(second as u32),
+    }
+}
+
+// The first n rows of a share table become the shares of two columns, and the others stay.
+fn put_shares(table: &mut [Share], first: [u16; JOBS_MOST], second: [u16; JOBS_MOST], n: usize)
     requires { ⌜ (n ≤ jobsMost) × (n ≤ length (now table)) ⌝ }
-    ensures { λ _. ⌜ now (table .exit) ≡ take n rows ++ drop n (now (table .entry)) ⌝ }
+    ensures { λ _. ⌜ now (table .exit) ≡ sharesIn n first second ++ drop n (now (table .entry)) ⌝ }
 {
     let mut i: usize = 0;
     while i < n {
-        table[i] = rows[i];
+        table[i] = share_of(first[i], second[i]);
         i += 1;
     }
 }
 
-// The first n rows of a slice table become the array's, and the others stay.
-fn put_slices(table: &mut [Slice], rows: [Slice; SLICES_MOST], n: usize)
+// The first n rows of a slice table become the slices of a column, and the others stay.
+fn put_slices(table: &mut [Slice], slices: [u64; SLICES_MOST], n: usize)
     requires { ⌜ (n ≤ slicesMost) × (n ≤ length (now table)) ⌝ }
-    ensures { λ _. ⌜ now (table .exit) ≡ take n rows ++ drop n (now (table .entry)) ⌝ }
+    ensures { λ _. ⌜ now (table .exit) ≡ slicesIn n slices ++ drop n (now (table .entry)) ⌝ }
 {
     let mut i: usize = 0;
     while i < n {
-        table[i] = rows[i];
+        table[i] = model::slice_in(slices[i]);
         i += 1;
     }
 }
@@ -195,9 +285,10 @@ pub fn plan(board: Board, jobs: &[Job], shares: &mut [Share], slices: &mut [Slic
 {
     let n = jobs.len();
     let few = at_most_a_set(n);
-    let set = jobs_in(jobs, few);
-    let t = plan_by_value(board, set, n, shares.len(), slices.len());
-    put_shares(shares, t.shares, t.shared);
+    let first = costs_in(Kind::First, jobs, few);
+    let second = costs_in(Kind::Second, jobs, few);
+    let t = plan_tables(board, first, second, n, shares.len(), slices.len());
+    put_shares(shares, t.first, t.second, t.shared);
     put_slices(slices, t.slices, t.sliced);
     t.planned
 }

@@ -26,29 +26,26 @@ add-result-2 c = search needs
 enum-told-3 : tie.Need-enum-told-3
 enum-told-3 c = search needs
 
-ticks-on-requires : tie.Need-ticks-on-requires
-ticks-on-requires c κs = search needs
-
 is-mover-requires-3 : tie.Need-is-mover-requires-3
 is-mover-requires-3 c κs = search needs
 
 returns : tie.Need-returns
-returns c = simp (c .before .before .before .enum-told .given .1, sym (c .before .before .is-mover .ensures), c .before .if1 .taken)
+returns c = simp (c .before .before .enum-told .given .1, sym (c .before .is-mover .ensures), c .if1 .taken)
 
 returns-2 : tie.Need-returns-2
 returns-2 c = simp (c .before .before .enum-told .given .1, sym (c .before .is-mover .ensures), c .if1 .left)
 
 returns-3 : tie.Need-returns-3
-returns-3 c = simp (c .before .before .before .enum-told2 .given .1, sym (c .before .before .is-mover2 .ensures), c .before .if2 .taken)
+returns-3 c = simp (c .before .before .enum-told2 .given .1, sym (c .before .is-mover2 .ensures), c .if2 .taken)
 
 returns-4 : tie.Need-returns-4
 returns-4 c = simp (c .before .before .enum-told2 .given .1, sym (c .before .is-mover2 .ensures), c .if2 .left)
 
 returns-5 : tie.Need-returns-5
-returns-5 c = simp (c .before .before .before .enum-told3 .given .1, sym (c .is-mover3 .ensures), lt-ltb _ _ (rw (c .before .before .ticks-on .ensures) at (c .before .if3 .taken)))
+returns-5 c = simp (c .before .before .enum-told3 .given .1, c .is-mover3 .ensures, lt-ltb _ _ (c .before .if3 .taken))
 
 returns-6 : tie.Need-returns-6
-returns-6 c = simp (c .before .before .enum-told3 .given .1, c .before .ticks-on .ensures, le-ltb _ _ (rw (c .before .ticks-on .ensures) at (c .if3 .left)))
+returns-6 c = simp (c .before .enum-told3 .given .1, le-ltb _ _ (c .if3 .left))
 
 pub is-in-spec : {M : Type 1} → statement M
 is-in-spec =
@@ -61,7 +58,6 @@ is-in-spec =
     is-mover-requires-2
     add-result-2
     enum-told-3
-    ticks-on-requires
     is-mover-requires-3
     returns
     returns-2
