@@ -1,50 +1,38 @@
 -- The promises of this crate determine their results: each is taken back from what it says, and every byte of a lent text is told.
---   read ↦ read-once, of arrays of 64 rows, as all of the type are
---   jobs_of ↦ jobs-of-once
+--   read ↦ read-once, the answer with both columns after the call
 --   write_plan ↦ write-plan-once, write_refusal ↦ write-refusal-once, the answer with the lent text after the call
 -- Assumes nothing.
-use mathlib.Core.List.{List, _++_, map}
+use mathlib.Core.List.{List}
 use mathlib.Core.Path.{_≡_, refl, sym, ap, _∙_}
-use Prim.Native.Nat.{ℕ, _-_, _≤_}
-use lib.ListN.{length, take, drop, replicate}
-use Rattle.model.specs.Limits.{jobsMost}
+use Prim.Native.Nat.{ℕ, min}
+use Rattle.model.specs.Columns.{sharesIn}
+use Rattle.model.specs.Limits.{jobsMost, slicesMost}
+use Rattle.model.specs.Packed.{slicesIn}
 use Rattle.model.specs.Refusal.{Answer}
-use Rattle.model.specs.declared.Job.{Job}
 use Rattle.model.specs.declared.Refusal.{Refusal}
-use Rattle.model.specs.declared.Slice.{Slice}
-use Rattle.model.proofs.Determined.{Once, once, said-once, refusal-back, answerOf, rows-back}
-use Rattle.text.specs.Input.{Input, inputOf, saysOutcome, noJob, jobsRead, Reads}
-use Rattle.text.specs.Output.{ofLine, planText, refusalText, saysWritten, Writes}
+use Rattle.model.proofs.Determined.{Once, said-once, refusal-back, answerOf}
+use Rattle.text.specs.Input.{Head, saysOutcome, Reads}
+use Rattle.text.specs.Output.{planText, refusalText, saysWritten, Writes}
 use Rattle.text.specs.declared.Outcome.{Outcome}
 use Rattle.text.specs.declared.Outcome.the-variants.{Set, Refused}
-use Rattle.text.specs.declared.ReadSet.{ReadSet}
-use Rattle.text.specs.declared.ShareLine.{ShareLine}
 use Rattle.text.specs.declared.Written.{Written}
 use Rattle.text.specs.declared.Written.the-variants.{Bytes, Full}
 
-abbrev noJobs : ℕ → List Job
-noJobs n = replicate n noJob
+-- What an answer on an input is taken back to.
+abbrev outcomeOf : Answer Head → Outcome
+outcomeOf = answerOf (λ h. Set (h .board) (h .count)) Refused
 
--- As many jobs as are read, and empty ones behind them.
-abbrev setOf : Answer Input → ReadSet
-setOf =
-    answerOf (λ i. record { outcome = Set (i .board) (length (i .jobs)); jobs = i .jobs ++ noJobs (jobsMost - length (i .jobs)) })
-    (λ r. record { outcome = Refused r; jobs = noJobs jobsMost })
+outcome-back : (o : Outcome) → outcomeOf (saysOutcome o) ≡ o
+outcome-back (Set b n) = refl
+outcome-back (Refused r) = ap Refused (refusal-back r)
 
-set-back : (o : Outcome) (js : List Job) → length js ≡ jobsMost → jobsRead o ≤ jobsMost → drop (jobsRead o) js ≡ noJobs (jobsMost - jobsRead o)
-    → setOf (saysOutcome o js) ≡ record { outcome = o; jobs = js }
-set-back (Set b n) js full few rest =
-    let rows = rows-back js n jobsMost noJob full few rest in
-    rw (rows .0, rows .1)
-set-back (Refused r) js full few rest = rw (refusal-back r, rest)
-
-pub read-once : (text : List ℕ) → Once (λ (r : ReadSet). (length (r .jobs) ≡ jobsMost) × Reads text r)
-read-once text =
-    once (setOf (inputOf text))
-    (λ r p. let g = p .1 in sym (set-back (r .outcome) (r .jobs) (p .0) (g .few) (g .rest)) ∙ ap setOf (g .says))
-
-pub jobs-of-once : (set : ReadSet) → Once (λ (r : List Job). r ≡ set .jobs)
-jobs-of-once set = once (set .jobs) (λ r e. e)
+-- What is read: the answer, and both columns after the call.
+pub read-once : (text c1 c2 : List ℕ) → Once (λ (r : Outcome × List ℕ × List ℕ). Reads text c1 c2 (r .0) (r .1) (r .2))
+read-once text c1 c2 r s p q =
+    let answer : r .0 ≡ s .0 = said-once saysOutcome outcomeOf outcome-back _ (r .0) (s .0) (p .says) (q .says) in
+    let first : r .1 ≡ s .1 = p .first ∙ sym (q .first) in
+    let second : r .2 ≡ s .2 = p .second ∙ sym (q .second) in
+    λ i. (answer i, first i, second i)
 
 abbrev writtenOf : Answer ℕ → Written
 writtenOf = answerOf Bytes Full
@@ -60,9 +48,9 @@ writes-once before lines r s p q =
     let text : r .1 ≡ s .1 = cc in
     λ i. (answer i, text i)
 
-pub write-plan-once : (shares : List ShareLine) (n : ℕ) (slices : List Slice) (k : ℕ) (before : List ℕ)
-    → Once (λ (r : Written × List ℕ). Writes before (r .1) (planText (map ofLine (take n shares)) (take k slices)) (r .0))
-write-plan-once shares n slices k before = writes-once before (planText (map ofLine (take n shares)) (take k slices))
+pub write-plan-once : (first second : List ℕ) (n : ℕ) (slices : List ℕ) (k : ℕ) (before : List ℕ)
+    → Once (λ (r : Written × List ℕ). Writes before (r .1) (planText (sharesIn (min n jobsMost) first second) (slicesIn (min k slicesMost) slices)) (r .0))
+write-plan-once first second n slices k before = writes-once before (planText (sharesIn (min n jobsMost) first second) (slicesIn (min k slicesMost) slices))
 
 pub write-refusal-once : (refusal : Refusal) (before : List ℕ) → Once (λ (r : Written × List ℕ). Writes before (r .1) (refusalText refusal) (r .0))
 write-refusal-once refusal before = writes-once before (refusalText refusal)

@@ -5,4 +5,5 @@ pub mod Turns
 pub mod Stores
 pub mod PlanText
 pub mod RoundTrip
+pub mod Lent
 pub mod Determined

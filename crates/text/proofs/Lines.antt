@@ -3,15 +3,13 @@
 use mathlib.Core.Bool.{Bool, true, false, cond}
 use mathlib.Core.List.{List, [], _∷_}
 use mathlib.Core.Path.{_≡_, refl}
-use Prim.Native.Nat.{ℕ, suc, _+_, _-_, _≤_, _<_}
-use native.Mathlib.Numerals.{add-one}
+use Prim.Native.Nat.{ℕ, suc, _+_, _≤_, _<_}
 use native.Mathlib.Omega.{arith}
-use borrow.Author.Tests.{eq-eqb, ne-eqb}
 use lib.Dec.{eqb}
 use lib.ListN.{length, take, drop, getD}
 use lib.Seq.{drop-cons, drop-drop}
 use Rattle.text.specs.Hex.{linesOf, joined}
-use Rattle.text.specs.Reader.{lineLength}
+use Rattle.text.specs.Reader.{lineLength, lineIn}
 
 -- A line ends within its text.
 pub lineLength-fits : (bs : List ℕ) → lineLength bs ≤ length bs
@@ -39,21 +37,11 @@ linesOf-first b (d ∷ bs) = go (eqb b 10) (lineLength (d ∷ bs)) (linesOf-firs
     go false n h = rw h
 
 module _ (text : List ℕ) (at : ℕ) (within : at < length text) where
-  -- A line ends at a line feed, and goes on at any other byte.
-  pub lineLength-feed : getD text at 0 ≡ 10 → lineLength (drop at text) ≡ 0
-  unfolding lineLength
-  lineLength-feed h = rw (drop-cons text at 0 within, eq-eqb (getD text at 0) 10 h)
-
-  pub lineLength-on : (getD text at 0 ≡ 10 → ⊥) → lineLength (drop at text) ≡ lineLength (drop (at + 1) text) + 1
-  unfolding lineLength
-  lineLength-on h = rw (drop-cons text at 0 within, ne-eqb (getD text at 0) 10 h, add-one, add-one)
-
   -- The line at a place, and the lines behind its line feed.
-  pub linesOf-at : (end : ℕ) → end ≡ at + lineLength (drop at text) → linesOf (drop at text) ≡ take (end - at) (drop at text) ∷ linesOf (drop (end + 1) text)
+  pub linesOf-at : (end : ℕ) → end ≡ at + lineLength (drop at text) → linesOf (drop at text) ≡ lineIn (drop at text) ∷ linesOf (drop (end + 1) text)
   linesOf-at end e =
-      let n : end - at ≡ lineLength (drop at text) = omega arith in
       let m : end + 1 ≡ at + suc (lineLength (drop at text)) = omega arith in
-      rw (n, m, ← drop-drop (suc (lineLength (drop at text))) at text) (first (drop at text) (drop-cons text at 0 within))
+      rw (m, ← drop-drop (suc (lineLength (drop at text))) at text) (first (drop at text) (drop-cons text at 0 within))
     where
-      first : (bs : List ℕ) → bs ≡ getD text at 0 ∷ drop (suc at) text → linesOf bs ≡ take (lineLength bs) bs ∷ linesOf (drop (suc (lineLength bs)) bs)
+      first : (bs : List ℕ) → bs ≡ getD text at 0 ∷ drop (suc at) text → linesOf bs ≡ lineIn bs ∷ linesOf (drop (suc (lineLength bs)) bs)
       first bs h = rw h (linesOf-first (getD text at 0) (drop (suc at) text))

@@ -1,14 +1,11 @@
 -- The text of a plan: its length, and that its lines are stored one kind behind the other. The one idea: lines that are joined are joined texts.
 -- Assumes nothing.
-use mathlib.Core.Bool.{Bool, true, false}
 use mathlib.Core.Path.{_≡_, refl, _∙_, sym}
 use mathlib.Core.List.{List, [], _∷_, _++_, map, append-assoc}
-use Prim.Native.Nat.{ℕ, _+_, _*_, min}
+use Prim.Native.Nat.{ℕ, _+_, _*_}
 use native.Mathlib.Omega.{arith}
-use borrow.Author.Tests.{leb-true, leb-false}
-use lib.Dec.{leb}
-use lib.ListN.{length, take, length-append}
-use lib.Seq.{sets, take-all}
+use lib.ListN.{length, length-append}
+use lib.Seq.{sets}
 use Rattle.model.specs.declared.Share.{Share}
 use Rattle.model.specs.declared.Slice.{Slice}
 use Rattle.text.specs.Hex.{digitsOf, lineOf, textOf}
@@ -45,10 +42,3 @@ module _ (ss : List Share) (rows : List Slice) (n k : ℕ) (n-long : length ss �
       rw (← n-long, ← k-long, ← shares-length 0 ss)
       (sym (sets-append (sets t 0 (lineOf (countRecord (length ss) (length rows)))) 7 (textOf (shareRecords 0 ss)) (textOf (map sliceRecord rows)))
       ∙ rw (← text-append (shareRecords 0 ss) (map sliceRecord rows)) (text-more t 0 (countRecord (length ss) (length rows)) (shareRecords 0 ss ++ map sliceRecord rows)))
-
--- a count above all of a list counts as all
-pub take-most : {A : Type 0} (l : List A) (n m : ℕ) → length l ≡ m → take (min n m) l ≡ take n l
-take-most {A} l n m e = go (leb n m) refl where
-  go : (t : Bool) → leb n m ≡ t → take (min n m) l ≡ take n l
-  go true h = let same : min n m ≡ n = omega (arith, leb-true n m h) in rw same
-  go false h = rw (take-all (min n m) l (omega (arith, leb-false n m h)), take-all n l (omega (arith, leb-false n m h)))

@@ -1,24 +1,26 @@
 -- The turns of the reader's loop over the lines of jobs. The idea: what the lines from here on give, put behind the jobs so far, is what all lines give.
 -- Assumes nothing.
 use mathlib.Core.Bool.{Bool, true, false, cond}
-use mathlib.Core.List.{List, [], _∷_, _++_, append-assoc, append-nil}
+use mathlib.Core.List.{List, [], _∷_, _++_, map, append-assoc, append-nil}
 use mathlib.Core.Path.{_≡_, refl, sym, _∙_, ap}
 use Prim.Native.Nat.{ℕ, suc, _+_, _-_, _≤_, _<_}
-use native.Mathlib.Numerals.{add-one}
 use native.Mathlib.Omega.{arith}
 use borrow.Author.Tests.{ltb-true}
 use lib.Dec.{ltb}
-use lib.ListN.{length, take, drop, set, replicate, length-set, drop-of-length-le}
-use lib.Seq.{take-suc-set, drop-set-lt, drop-drop}
+use lib.ListN.{length, drop, set, replicate, length-append, drop-of-length-le}
+use lib.Seq.{set-at}
+use Rattle.model.specs.Columns.{costOn, costs}
 use Rattle.model.specs.Limits.{jobsMost}
 use Rattle.model.specs.Refusal.{Answer, given, refused, andThen}
 use Rattle.model.specs.declared.Job.{Job}
-use Rattle.text.specs.Hex.{linesOf}
-use Rattle.text.specs.Input.{lineSays, asJob, jobsFrom, noJob}
-use Rattle.text.specs.Reader.{lineLength}
+use Rattle.model.specs.declared.Kind.{Kind}
+use Rattle.model.specs.declared.Kind.the-variants.{First, Second}
+use Rattle.text.specs.Hex.{linesOf, bytesOf}
+use Rattle.text.specs.Input.{lineSays, asJob, jobsFrom}
+use Rattle.text.specs.Reader.{isThere, Costs, costsSaid}
 use Rattle.text.specs.declared.Entry.{Entry}
 use Rattle.text.specs.declared.Entry.the-variants.{OfBoard, OfJob}
-use Rattle.text.proofs.Lines.{linesOf-at}
+use Rattle.text.proofs.Records.{given-there}
 
 -- Jobs behind others.
 abbrev onto : List Job → Answer (List Job) → Answer (List Job)
@@ -55,46 +57,92 @@ jobSays-few i n (given (OfJob k)) j e = go (ltb n jobsMost) refl e
     go false f e = let z : _≡_ {A = ℕ} 0 1 = cc in omega arith
 jobSays-few i n (refused k p) j e = let z : _≡_ {A = ℕ} 0 1 = cc in omega arith
 
--- What holds at every turn: n jobs were read from the lines before `at`.
-pub record Turn (text : List ℕ) (from : ℕ) (jobs : List Job) (n at : ℕ) : Type 0 where
+-- The column of a kind with one job more.
+costs-more : (k : Kind) (js : List Job) (j : Job) (n : ℕ) {c : List ℕ} {x : ℕ} → length js ≡ n → n < jobsMost → c ≡ costs k js → x ≡ costOn k j → set c n x ≡ costs k (js ++ (j ∷ []))
+costs-more k js j n size few e f =
+    let left : jobsMost - length js ≡ suc (jobsMost - (length js + 1)) = omega arith in
+    rw (e, f, length-append js (j ∷ []), map-more k js, left, set-at (map (costOn k) js) 0 (replicate (jobsMost - (length js + 1)) 0) (costOn k j) n (map-length k js ∙ size), append-assoc)
+  where
+    map-length : (k : Kind) (js : List Job) → length (map (costOn k) js) ≡ length js
+    map-length k [] = refl
+    map-length k (i ∷ js) = ap suc (map-length k js)
+
+    map-more : (k : Kind) (js : List Job) → map (costOn k) (js ++ (j ∷ [])) ≡ map (costOn k) js ++ (costOn k j ∷ [])
+    map-more k [] = refl
+    map-more k (i ∷ js) = rw (map-more k js)
+
+-- The job of a row of costs.
+pub record Held (c1 c2 : ℕ) (a : Answer Job) : Type 0 where
+  pub job : Job
+  pub is : a ≡ given job
+  pub first : c1 ≡ costOn First job
+  pub second : c2 ≡ costOn Second job
+
+pub held : (c1 c2 : ℕ) (a : Answer Job) → given (record { first = c1; second = c2 }) ≡ costsSaid a → Held c1 c2 a
+held c1 c2 (given j) e = let f : _≡_ {A = Costs} (record { first = c1; second = c2 }) (record { first = costOn First j; second = costOn Second j }) = cc in record { job = j; is = refl; first = ap (λ (c : Costs). c .first) f; second = ap (λ (c : Costs). c .second) f }
+held c1 c2 (refused k p) e = absurd (let z : _≡_ {A = ℕ} 0 1 = cc in omega arith)
+
+-- An answer that is refused has no row of costs.
+pub not-held : (k p : ℕ) (a : Answer Job) → refused k p ≡ costsSaid a → a ≡ refused k p
+not-held k p (given j) e = absurd (let z : _≡_ {A = ℕ} 0 1 = cc in omega arith)
+not-held k p (refused l q) e = cc
+
+-- What holds at every turn: n jobs were read from the lines before `at`, and their costs are in the columns.
+pub record Turn (text : List ℕ) (from : ℕ) (c1 c2 : List ℕ) (n at : ℕ) : Type 0 where
+  pub jobs : List Job
+  pub count : length jobs ≡ n
   pub few : n ≤ jobsMost
-  pub size : length jobs ≡ jobsMost
-  pub rest : drop n jobs ≡ replicate (jobsMost - n) noJob
-  pub all : onto (take n jobs) (jobsFrom (n + 2) n (linesOf (drop at text))) ≡ jobsFrom 2 0 (linesOf (drop from text))
+  pub first : c1 ≡ costs First jobs
+  pub second : c2 ≡ costs Second jobs
+  pub all : onto jobs (jobsFrom (n + 2) n (linesOf (drop at text))) ≡ jobsFrom 2 0 (linesOf (drop from text))
 
-pub turn-first : (text : List ℕ) (from : ℕ) → Turn text from (replicate jobsMost noJob) 0 from
-turn-first text from = record { few = omega arith; size = refl; rest = refl; all = onto-none _ }
+pub turn-first : (text : List ℕ) (from : ℕ) → Turn text from (replicate jobsMost 0) (replicate jobsMost 0) 0 from
+turn-first text from = record { jobs = []; count = refl; few = omega arith; first = refl; second = refl; all = onto-none _ }
 
-module _ (text : List ℕ) (from : ℕ) (jobs : List Job) (n at : ℕ) (turn : Turn text from jobs n at) where
+module _ (text : List ℕ) (from : ℕ) (c1 c2 : List ℕ) (n at : ℕ) (turn : Turn text from c1 c2 n at) where
   -- Behind the last line.
-  pub turn-last : length text ≤ at → given (take n jobs) ≡ jobsFrom 2 0 (linesOf (drop from text))
+  pub turn-last : length text ≤ at → given (turn .jobs) ≡ jobsFrom 2 0 (linesOf (drop from text))
   unfolding linesOf jobsFrom
-  turn-last out = ap given (sym (append-nil (take n jobs))) ∙ (rw (drop-of-length-le text out) at (turn .all))
+  turn-last out = ap given (sym (append-nil (turn .jobs))) ∙ (rw (drop-of-length-le text out) at (turn .all))
 
-  module _ (within : at < length text) (end : ℕ) (e : end ≡ at + lineLength (drop at text)) where
-    line : jobsFrom (n + 2) n (linesOf (drop at text))
-        ≡ andThen (jobSays (n + 2) n (take (end - at) (drop at text)))
-        (λ (j : Job). andThen (jobsFrom (n + 2 + 1) (n + 1) (linesOf (drop (end + 1) text))) (λ (js : List Job). given (j ∷ js)))
-    line = rw (linesOf-at text at within end e) (jobsFrom-line (n + 2) n (take (end - at) (drop at text)) (linesOf (drop (end + 1) text)))
+  -- The line here.
+  module _ (line : List ℕ) where
+    -- It holds a job: there is room for it, and the line spells a record.
+    module _ (a b : ℕ) (h : given (record { first = a; second = b }) ≡ costsSaid (jobSays (n + 2) n line)) where
+      row : Held a b (jobSays (n + 2) n line)
+      row = held a b _ h
 
-    -- A line that is refused decides.
-    pub turn-refused : (k p : ℕ) → refused k p ≡ jobSays (n + 2) n (take (end - at) (drop at text)) → refused k p ≡ jobsFrom 2 0 (linesOf (drop from text))
-    turn-refused k p h = rw (line, ← h) at (turn .all)
+      pub turn-few : n < jobsMost
+      turn-few = jobSays-few (n + 2) n (lineSays (n + 2) line) (row .job) (sym (row .is))
 
-    -- A job more.
-    pub turn-few : (j : Job) → given j ≡ jobSays (n + 2) n (take (end - at) (drop at text)) → n < jobsMost
-    turn-few j h = jobSays-few (n + 2) n (lineSays (n + 2) (take (end - at) (drop at text))) j h
+      pub turn-there : isThere (bytesOf line) ≡ true
+      turn-there = given-there (n + 2) line (asJob (n + 2) n) (row .job) (row .is)
 
-    pub turn-more : (j : Job) → given j ≡ jobSays (n + 2) n (take (end - at) (drop at text)) → Turn text from (set jobs n j) (n + 1) (end + 1)
-    turn-more j h =
-        let few : n < jobsMost = turn-few j h in
-        let more : n < length jobs = omega (arith, turn .size) in
-        let left : jobsMost - n ≡ suc (jobsMost - (n + 1)) = omega arith in
-        let front : take (n + 1) (set jobs n j) ≡ take n jobs ++ (j ∷ []) = rw (add-one n) (take-suc-set jobs n j more) in
-        let next : n + 1 + 2 ≡ n + 2 + 1 = omega arith in
-        record {
-          few = omega arith;
-          size = length-set jobs n j ∙ turn .size;
-          rest = drop-set-lt (n + 1) jobs n j (omega arith) ∙ sym (drop-drop 1 n jobs) ∙ (rw (turn .rest, left));
-          all = rw (front, next) (sym (onto-more (take n jobs) j (jobsFrom (n + 2 + 1) (n + 1) (linesOf (drop (end + 1) text)))) ∙ (rw (line, ← h) at (turn .all)));
-        }
+    -- With the lines behind it.
+    module _ (end : ℕ) (lines : linesOf (drop at text) ≡ line ∷ linesOf (drop (end + 1) text)) where
+      first-line : jobsFrom (n + 2) n (linesOf (drop at text))
+          ≡ andThen (jobSays (n + 2) n line)
+          (λ (j : Job). andThen (jobsFrom (n + 2 + 1) (n + 1) (linesOf (drop (end + 1) text))) (λ (js : List Job). given (j ∷ js)))
+      first-line = rw lines (jobsFrom-line (n + 2) n line (linesOf (drop (end + 1) text)))
+
+      -- A line that is refused decides.
+      pub turn-refused : (k p : ℕ) → refused k p ≡ costsSaid (jobSays (n + 2) n line) → refused k p ≡ jobsFrom 2 0 (linesOf (drop from text))
+      turn-refused k p h =
+          let is : jobSays (n + 2) n line ≡ refused k p = not-held k p _ h in
+          rw (first-line, is) at (turn .all)
+
+      -- A job more.
+      pub turn-more : (a b : ℕ) → given (record { first = a; second = b }) ≡ costsSaid (jobSays (n + 2) n line) → Turn text from (set c1 n a) (set c2 n b) (n + 1) (end + 1)
+      turn-more a b h =
+          let few : n < jobsMost = turn-few a b h in
+          let next : n + 1 + 2 ≡ n + 2 + 1 = omega arith in
+          let r = row a b h in
+          let all = sym (onto-more (turn .jobs) (r .job) (jobsFrom (n + 2 + 1) (n + 1) (linesOf (drop (end + 1) text)))) ∙ (rw (first-line, r .is) at (turn .all)) in
+          record {
+            jobs = turn .jobs ++ (r .job ∷ []);
+            count = length-append (turn .jobs) (r .job ∷ []) ∙ ap (λ (m : ℕ). m + 1) (turn .count);
+            few = omega arith;
+            first = costs-more First (turn .jobs) (r .job) n (turn .count) few (turn .first) (r .first);
+            second = costs-more Second (turn .jobs) (r .job) n (turn .count) few (turn .second) (r .second);
+            all = rw next all;
+          }

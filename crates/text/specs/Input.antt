@@ -4,26 +4,33 @@
 --   lineSays     the entry of a line, or refusal 8 or 9
 --   jobsFrom     the jobs of the lines after the first: refusal 10 for a board, refusal 3 for one job too many
 --   inputOf      a text's board and jobs, or the refusal of its first bad line
---   saysRead     what the code's answer says
---   Gives, Reads an answer that says so, every row of it; the reader's is what its text says
+--   headOf       an answer's board and the number of its jobs; jobsGiven, its jobs
+--   saysOutcome  what the code's outcome says: a head, or a refusal
+--   short        whether columns are too short for some set
+--   inColumns    an answer for columns of so many rows: refusal 7 where they are too short
+--   readOf       what a text says for columns of so many rows
+--   front        a column with the costs of jobs at its front
+--   Gives        an outcome that says an answer, with every row of its columns; Reads, the reader's: what its text says
 -- Assumes nothing.
-use mathlib.Core.Bool.{cond, _&&_}
-use mathlib.Core.List.{List, [], _∷_}
+use mathlib.Core.Bool.{Bool, cond, _&&_, _||_}
+use mathlib.Core.List.{List, [], _∷_, _++_, map}
 use mathlib.Core.Path.{_≡_}
-use Prim.Native.Nat.{ℕ, _+_, _-_, _≤_}
+use Prim.Native.Nat.{ℕ, _+_, _≤_}
 use lib.Dec.{eqb, ltb}
-use lib.ListN.{length, take, drop, replicate}
+use lib.ListN.{length, take, drop}
+use Rattle.model.specs.Columns.{costOn}
 use Rattle.model.specs.Limits.{jobsMost, textMost}
 use Rattle.model.specs.Refusal.{Answer, given, refused, saysRefusal, andThen}
 use Rattle.model.specs.declared.Board.{Board}
 use Rattle.model.specs.declared.Job.{Job}
 use Rattle.model.specs.declared.Job.the-variants.{Both, OnlyFirst, OnlySecond}
+use Rattle.model.specs.declared.Kind.{Kind}
+use Rattle.model.specs.declared.Kind.the-variants.{First, Second}
 use Rattle.text.specs.Hex.{Maybe, none, some, linesOf, bytesOf, numberIn}
 use Rattle.text.specs.declared.Entry.{Entry}
 use Rattle.text.specs.declared.Entry.the-variants.{OfBoard, OfJob}
 use Rattle.text.specs.declared.Outcome.{Outcome}
 use Rattle.text.specs.declared.Outcome.the-variants.{Set, Refused}
-use Rattle.text.specs.declared.ReadSet.{ReadSet}
 
 -- 01: W in two bytes, the cores of the first kind and of the second.
 abbrev pub boardIn : List ℕ → Board
@@ -89,25 +96,44 @@ inputFrom (line ∷ lines) =
 unfoldable pub inputOf : List ℕ → Answer Input
 inputOf text = cond (ltb textMost (length text)) (refused 8 0) (inputFrom (linesOf text))
 
-abbrev pub saysOutcome : Outcome → List Job → Answer Input
-saysOutcome (Set b n) js = given (record { board = b; jobs = take n js })
-saysOutcome (Refused r) js = saysRefusal r
+-- What an answer on an input says beside its jobs: the board, and how many they are.
+pub record Head : Type 0 where
+  pub board : Board
+  pub count : ℕ
 
-abbrev pub saysRead : ReadSet → Answer Input
-saysRead r = saysOutcome (r .outcome) (r .jobs)
+abbrev pub headOf : Answer Input → Answer Head
+headOf (given i) = given (record { board = i .board; count = length (i .jobs) })
+headOf (refused n p) = refused n p
 
-abbrev pub noJob : Job
-noJob = OnlyFirst (record { 0 = 0 })
+abbrev pub jobsGiven : Answer Input → List Job
+jobsGiven (given i) = i .jobs
+jobsGiven (refused n p) = []
 
-abbrev pub jobsRead : Outcome → ℕ
-jobsRead (Set b n) = n
-jobsRead (Refused r) = 0
+abbrev pub saysOutcome : Outcome → Answer Head
+saysOutcome (Set b n) = given (record { board = b; count = n })
+saysOutcome (Refused r) = saysRefusal r
 
--- An answer of the reader that says a given thing, with empty jobs in every row that it does not count.
-pub record Gives (answer : Answer Input) (r : ReadSet) : Type 0 where
-  pub says : saysRead r ≡ answer
-  pub few : jobsRead (r .outcome) ≤ jobsMost
-  pub rest : drop (jobsRead (r .outcome)) (r .jobs) ≡ replicate (jobsMost - jobsRead (r .outcome)) noJob
+-- Whether columns of m1 and m2 rows are too short for some set.
+abbrev pub short : (m1 m2 : ℕ) → Bool
+short m1 m2 = ltb m1 jobsMost || ltb m2 jobsMost
 
-abbrev pub Reads : List ℕ → ReadSet → Type 0
-Reads text r = Gives (inputOf text) r
+-- Refusal 7 comes last of all.
+abbrev pub inColumns : Answer Input → (m1 m2 : ℕ) → Answer Input
+inColumns answer m1 m2 = andThen answer (λ (i : Input). cond (short m1 m2) (refused 7 0) (given i))
+
+abbrev pub readOf : List ℕ → (m1 m2 : ℕ) → Answer Input
+readOf text m1 m2 = inColumns (inputOf text) m1 m2
+
+-- A column with the costs of jobs at its front.
+abbrev pub front : Kind → List Job → List ℕ → List ℕ
+front k js c = map (costOn k) js ++ drop (length js) c
+
+-- What is read of a set into columns c1 and c2, where `answer` is what these get of it.
+pub record Gives (set answer : Answer Input) (c1 c2 : List ℕ) (r : Outcome) (c1′ c2′ : List ℕ) : Type 0 where
+  pub says : saysOutcome r ≡ headOf answer
+  pub few : length (jobsGiven set) ≤ jobsMost
+  pub first : c1′ ≡ front First (jobsGiven answer) c1
+  pub second : c2′ ≡ front Second (jobsGiven answer) c2
+
+abbrev pub Reads : (text c1 c2 : List ℕ) → Outcome → (c1′ c2′ : List ℕ) → Type 0
+Reads text c1 c2 r c1′ c2′ = Gives (inputOf text) (readOf text (length c1) (length c2)) c1 c2 r c1′ c2′

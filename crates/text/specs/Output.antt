@@ -1,5 +1,4 @@
 -- The output: the lines of a plan, or of a refusal. Document 01, "The text".
---   ofLine           the share of the ticks that a line holds
 --   planRecords      10 with the counts, 11 for each job, 12 for each slice in the table's order
 --   refusedRecords   1f with the number and the place
 --   planText, refusedText    the same as bytes of a text; refusalText by the code's refusal
@@ -17,21 +16,15 @@ use lib.ListN.{length, drop}
 use Rattle.model.specs.Board.{on}
 use Rattle.model.specs.Limits.{jobsMost, slicesMost}
 use Rattle.model.specs.Refusal.{Answer, given, refused, saysRefusal, numberOf, placeOf}
-use Rattle.model.specs.Split.{share}
 use Rattle.model.specs.declared.Refusal.{Refusal}
 use Rattle.model.specs.declared.Share.{Share}
 use Rattle.model.specs.declared.Slice.{Slice}
 use Rattle.text.specs.Hex.{two, textOf}
-use Rattle.text.specs.declared.ShareLine.{ShareLine}
 use Rattle.text.specs.declared.Written.{Written}
 use Rattle.text.specs.declared.Written.the-variants.{Bytes, Full}
 
 abbrev pub countRecord : (jobs slices : ℕ) → List ℕ
 countRecord jobs slices = 16 ∷ jobs ∷ slices ∷ []
-
--- A line's ticks are those of a share: the writers take the first, the definitions the second.
-abbrev pub ofLine : ShareLine → Share
-ofLine l = share (l .first) (l .second)
 
 abbrev pub shareRecord : ℕ → Share → List ℕ
 shareRecord job s = 17 ∷ job ∷ (two (s .first .0) ++ two (s .second .0))

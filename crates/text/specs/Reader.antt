@@ -1,57 +1,116 @@
 -- What the reader's functions promise each other.
---   lineLength   the bytes of a text's first line, without its line feed
---   recordIn     the record of a line, and no byte where the line is refused
+--   lineIn       a text's first line, without its line feed; lineLength, how many bytes it has
 --   valueOf      a digit's value as the code has it: 16 where there is none
+--   digitsIn     the values of the digits that a text begins with
+--   hexIn        the number that digits spell, the high digit first
+--   isEnd        whether a line ends here: at the end of the text, or at a line feed
+--   Spells       a run of digits, as many as are asked for or as there are: its number, and where it ends
+--   Numbered     the numbers of a line's digits, and where they end
+--   HoldsRecord  the numbers of a record, as a line of so many digits has them
 --   saysLine, saysRow   what the code's answers on a line say
+--   SaysRecord   an answer on a line that is what its record says, told by its numbers
+--   costsSaid    of an answer that gives a job, what the job costs on each kind
 --   setFrom      what the lines after the board's give
---   setOf        the reader's answer of its parts
+--   GivesIn      an outcome that says an answer, as columns of their lengths get it
 -- Assumes nothing.
 use mathlib.Core.Bool.{Bool, true, false, cond}
 use mathlib.Core.List.{List, [], _∷_}
-use Prim.Native.Nat.{ℕ, suc}
+use mathlib.Core.Path.{_≡_}
+use Prim.Native.Nat.{ℕ, suc, _+_, _*_, _<_}
 use lib.Dec.{eqb}
-use Rattle.model.specs.Refusal.{Answer, given, saysRefusal, andThen}
+use lib.ListN.{length, take, drop}
+use Rattle.model.specs.Columns.{costOn}
+use Rattle.model.specs.Lists.{All}
+use Rattle.model.specs.Refusal.{Answer, given, refused, saysRefusal, andThen}
 use Rattle.model.specs.declared.Board.{Board}
 use Rattle.model.specs.declared.Job.{Job}
-use Rattle.text.specs.Hex.{Maybe, none, some, bytesOf}
-use Rattle.text.specs.Input.{Input, jobsFrom}
+use Rattle.model.specs.declared.Kind.the-variants.{First, Second}
+use Rattle.text.specs.Hex.{Maybe, none, some, nibbleOf, numberIn}
+use Rattle.text.specs.Input.{Input, entryOf, recordSays, jobsFrom, inColumns, Gives}
 use Rattle.text.specs.declared.Entry.{Entry}
 use Rattle.text.specs.declared.Outcome.{Outcome}
-use Rattle.text.specs.declared.ReadSet.{ReadSet}
 use Rattle.text.specs.declared.reader.Line.{Line}
 use Rattle.text.specs.declared.reader.Line.the-variants.{Says, Bad}
+use Rattle.text.specs.declared.reader.Numbers.{Numbers}
 use Rattle.text.specs.declared.reader.Row.{Row}
 use Rattle.text.specs.declared.reader.Row.the-variants.{Holds, Wrong}
+use Rattle.text.specs.declared.reader.Run.{Run}
 
 unfoldable pub lineLength : List ℕ → ℕ
 lineLength [] = 0
 lineLength (b ∷ bs) = cond (eqb b 10) 0 (suc (lineLength bs))
 
+abbrev pub lineIn : List ℕ → List ℕ
+lineIn text = take (lineLength text) text
+
 abbrev pub isThere : {A : Type 0} → Maybe A → Bool
 isThere none = false
 isThere (some a) = true
-
-abbrev pub orEmpty : Maybe (List ℕ) → List ℕ
-orEmpty none = []
-orEmpty (some bs) = bs
-
-abbrev pub recordIn : List ℕ → List ℕ
-recordIn line = orEmpty (bytesOf line)
 
 abbrev pub valueOf : Maybe ℕ → ℕ
 valueOf none = 16
 valueOf (some x) = x
 
+-- A byte that is no digit ends the digits.
+abbrev pub digitThen : Maybe ℕ → List ℕ → List ℕ
+digitThen none ds = []
+digitThen (some x) ds = x ∷ ds
+
+unfoldable pub digitsIn : List ℕ → List ℕ
+digitsIn [] = []
+digitsIn (b ∷ bs) = digitThen (nibbleOf b) (digitsIn bs)
+
+unfoldable pub hexFrom : ℕ → List ℕ → ℕ
+hexFrom n [] = n
+hexFrom n (d ∷ ds) = hexFrom (16 * n + d) ds
+
+abbrev pub hexIn : List ℕ → ℕ
+hexIn ds = hexFrom 0 ds
+
+abbrev pub isEnd : List ℕ → Bool
+isEnd [] = true
+isEnd (b ∷ bs) = eqb b 10
+
+pub record Spells (ds : List ℕ) (from most : ℕ) (r : Run) : Type 0 where
+  pub value : r .value ≡ hexIn (take most ds)
+  pub end : r .end ≡ from + length (take most ds)
+
+pub record Numbered (ds : List ℕ) (from : ℕ) (line : Numbers) : Type 0 where
+  pub head : line .head ≡ hexIn (take 4 ds)
+  pub a : line .a ≡ hexIn (take 8 (drop 4 ds))
+  pub b : line .b ≡ hexIn (take 8 (drop 12 ds))
+  pub end : line .end ≡ from + length ds
+
+-- Two digits for each byte.
+pub record HoldsRecord (bs : List ℕ) (size : ℕ) (line : Numbers) : Type 0 where
+  pub size-is : size ≡ length bs + length bs
+  pub small : All (λ (b : ℕ). b < 256) bs
+  pub head : line .head ≡ numberIn (take 2 bs)
+  pub a : line .a ≡ numberIn (take 4 (drop 2 bs))
+  pub b : line .b ≡ numberIn (take 4 (drop 6 bs))
+
 abbrev pub saysLine : Line → Answer Entry
 saysLine (Says e) = given e
 saysLine (Bad r) = saysRefusal r
 
-abbrev pub saysRow : Row → Answer Job
-saysRow (Holds j) = given j
+pub record SaysRecord (size : ℕ) (line : Numbers) (i : ℕ) (r : Line) : Type 0 where
+  pub is : (bs : List ℕ) → HoldsRecord bs size line → saysLine r ≡ recordSays i (entryOf bs)
+
+-- What a job costs on each kind, as columns have it.
+pub record Costs : Type 0 where
+  pub first : ℕ
+  pub second : ℕ
+
+abbrev pub costsSaid : Answer Job → Answer Costs
+costsSaid (given j) = given (record { first = costOn First j; second = costOn Second j })
+costsSaid (refused k p) = refused k p
+
+abbrev pub saysRow : Row → Answer Costs
+saysRow (Holds c1 c2) = given (record { first = c1; second = c2 })
 saysRow (Wrong r) = saysRefusal r
 
 abbrev pub setFrom : Board → List (List ℕ) → Answer Input
 setFrom b lines = andThen (jobsFrom 2 0 lines) (λ (js : List Job). given (record { board = b; jobs = js }))
 
-abbrev pub setOf : Outcome → List Job → ReadSet
-setOf o js = record { outcome = o; jobs = js }
+abbrev pub GivesIn : Answer Input → (c1 c2 : List ℕ) → Outcome → (c1′ c2′ : List ℕ) → Type 0
+GivesIn set c1 c2 r c1′ c2′ = Gives set (inColumns set (length c1) (length c2)) c1 c2 r c1′ c2′

@@ -1,22 +1,40 @@
 // The reader: bytes to a board and its jobs, or the refusal of the first bad line. Document 01, "The text" and refusals 8, 9, 10 and 3.
+// The costs go into columns that the caller lends, once the whole text is known to be a set, so that a refusal changes none.
+ghost use mathlib.Core.List.{_++_};
 ghost use mathlib.Core.Path.{_≡_};
-ghost use Prim.Native.Nat.{_+_, _≤_, _<_};
-ghost use lib.ListN.{length, take, drop, getD};
+ghost use Prim.Native.Nat.{_+_, _≤_};
+ghost use lib.ListN.{length, drop};
+ghost use Rattle.model.specs.Columns.{upto, at};
 ghost use Rattle.model.specs.Limits.{jobsMost};
-ghost use Rattle.model.specs.Refusal.{saysRefusal, andThen};
-ghost use Rattle.text.specs.Hex.{linesOf, nibbleOf, bytesOf, numberIn};
-ghost use Rattle.text.specs.Input.{jobIn, entryJob, entryOf, recordSays, lineSays, asJob, Gives, Reads};
-ghost use Rattle.text.specs.Reader.{lineLength, isThere, recordIn, valueOf, saysLine, saysRow, setFrom, setOf};
+ghost use Rattle.model.specs.Refusal.{andThen};
+ghost use Rattle.text.specs.Hex.{linesOf, nibbleOf, bytesOf};
+ghost use Rattle.text.specs.Input.{jobIn, entryJob, recordSays, lineSays, asJob, short, Reads};
+ghost use Rattle.text.specs.Reader.{lineIn, isThere, valueOf, digitsIn, isEnd, Spells, Numbered, SaysRecord, saysLine, saysRow, costsSaid, setFrom, GivesIn};
 use super::Entry;
 use super::Outcome;
-use super::ReadSet;
 use model::Board;
 use model::FirstTicks;
 use model::JOBS_MOST;
 use model::Job;
+use model::Kind;
 use model::Refusal;
 use model::SecondTicks;
 use model::TEXT_MOST;
+use model::cost;
+
+// A run of digits: the number that it spells, and where it ends.
+struct Run {
+    value: u32,
+    end: usize,
+}
+
+// The numbers that the digits of a line spell: the first four, the eight behind them, the eight behind those. And where its digits end.
+struct Numbers {
+    head: u32,
+    a: u32,
+    b: u32,
+    end: usize,
+}
 
 // What a line says, or its refusal.
 enum Line {
@@ -24,48 +42,10 @@ enum Line {
     Bad(Refusal),
 }
 
-// The job of a line after the first, or the line's refusal.
+// What the job of a line after the first costs on each kind, as columns have it, or the line's refusal.
 enum Row {
-    Holds(Job),
+    Holds(u32, u32),
     Wrong(Refusal),
-}
-
-// The answer of its parts. A field that is an array of an enum is made in this function only, and read in the next.
-fn set_of(outcome: Outcome, jobs: [Job; JOBS_MOST]) -> ReadSet
-    ensures { λ r. ⌜ r ≡ setOf outcome jobs ⌝ }
-{
-    ReadSet { outcome, jobs }
-}
-
-// The jobs of an answer.
-pub fn jobs_of(set: ReadSet) -> [Job; JOBS_MOST]
-    ensures { λ r. ⌜ r ≡ set .jobs ⌝ }
-{
-    set.jobs
-}
-
-// A refusal, with no job.
-fn refused(refusal: Refusal) -> ReadSet
-    ensures { λ r. ⌜ Gives (saysRefusal refusal) r ⌝ }
-{
-    set_of(
-        Outcome::Refused(refusal),
-        [Job::OnlyFirst(FirstTicks(0)); JOBS_MOST],
-    )
-}
-
-// Where the line that starts at `from` ends: at its line feed, or at the end of the text.
-fn line_end(text: &[u8], from: usize) -> usize
-    ensures { λ r. ⌜ r ≡ from + lineLength (drop from (now (text .entry))) ⌝ }
-{
-    let mut end = from;
-    while end < text.len() {
-        if text[end] == b'\n' {
-            return end;
-        }
-        end += 1;
-    }
-    end
 }
 
 // The value of a hexadecimal digit, and 16 for any other byte.
@@ -80,65 +60,81 @@ fn nibble(b: u8) -> u8
     }
 }
 
-// Whether a line has digits, an even number of them, and nothing else.
-fn spells(line: &[u8]) -> bool
-    ensures { λ r. ⌜ r ≡ isThere (bytesOf (now (line .entry))) ⌝ }
+// The digits from a place on, `most` of them at most.
+fn run_of(text: &[u8], from: usize, most: usize) -> Run
+    requires { ⌜ most ≤ 8 ⌝ }
+    ensures { λ r. ⌜ Spells (digitsIn (drop from (now (text .entry)))) from most r ⌝ }
 {
-    if line.len() == 0 {
+    let mut value: u32 = 0;
+    let mut left = most;
+    let mut at = from;
+    while at < text.len() {
+        if left == 0 {
+            return Run { value, end: at };
+        }
+        let digit = nibble(text[at]) as u32;
+        if digit == 16 {
+            return Run { value, end: at };
+        }
+        value = 16 * value + digit;
+        left -= 1;
+        at += 1;
+    }
+    Run { value, end: at }
+}
+
+// Where the digits from a place on end.
+fn digits_end(text: &[u8], from: usize) -> usize
+    ensures { λ r. ⌜ r ≡ from + length (digitsIn (drop from (now (text .entry)))) ⌝ }
+{
+    let mut at = from;
+    while at < text.len() {
+        if nibble(text[at]) == 16 {
+            return at;
+        }
+        at += 1;
+    }
+    at
+}
+
+// The numbers of the line that starts at `from`.
+fn line_at(text: &[u8], from: usize) -> Numbers
+    ensures { λ r. ⌜ Numbered (digitsIn (drop from (now (text .entry)))) from r ⌝ }
+{
+    let head = run_of(text, from, 4);
+    let a = run_of(text, head.end, 8);
+    let b = run_of(text, a.end, 8);
+    let end = digits_end(text, b.end);
+    Numbers {
+        head: head.value,
+        a: a.value,
+        b: b.value,
+        end,
+    }
+}
+
+// Whether a line ends at a place: there is a line feed, or nothing more.
+fn is_end(text: &[u8], end: usize) -> bool
+    ensures { λ r. ⌜ r ≡ isEnd (drop end (now (text .entry))) ⌝ }
+{
+    if text.len() <= end {
+        return true;
+    }
+    text[end] == b'\n'
+}
+
+// Whether the digits from `from` to `end`, and nothing else, are a line: some, and an even number of them.
+fn is_line(text: &[u8], from: usize, end: usize) -> bool
+    requires { ⌜ end ≡ from + length (digitsIn (drop from (now text))) ⌝ }
+    ensures { λ r. ⌜ r ≡ isThere (bytesOf (lineIn (drop from (now (text .entry))))) ⌝ }
+{
+    if !is_end(text, end) {
         return false;
     }
-    let mut i = 0;
-    while i + 1 < line.len() {
-        if nibble(line[i]) == 16 {
-            return false;
-        }
-        if nibble(line[i + 1]) == 16 {
-            return false;
-        }
-        i += 2;
+    if end == from {
+        return false;
     }
-    i == line.len()
-}
-
-// Byte k of a line's record.
-fn byte(line: &[u8], k: usize) -> u8
-    requires { ⌜ k < length (recordIn (now line)) ⌝ }
-    ensures { λ r. ⌜ r ≡ getD (recordIn (now (line .entry))) k 0 ⌝ }
-{
-    nibble(line[k + k]) * 16 + nibble(line[k + k + 1])
-}
-
-// The number that `count` bytes of a line's record spell, the high byte first.
-fn number(line: &[u8], from: usize, count: usize) -> u32
-    requires { ⌜ (count ≤ 4) × (from + count ≤ length (recordIn (now line))) ⌝ }
-    ensures { λ r. ⌜ r ≡ numberIn (take count (drop from (recordIn (now (line .entry))))) ⌝ }
-{
-    let mut n: u32 = 0;
-    let mut i = 0;
-    while i < count {
-        let b = byte(line, from + i) as u32;
-        n = 256 * n + b;
-        i += 1;
-    }
-    n
-}
-
-// A board's line.
-fn board_line(line: &[u8], i: u8) -> Line
-    requires { ⌜ getD (recordIn (now line)) 0 0 ≡ 1 ⌝ }
-    ensures { λ r. ⌜ saysLine r ≡ recordSays i (entryOf (recordIn (now (line .entry)))) ⌝ }
-{
-    if line.len() != 10 {
-        return Line::Bad(Refusal::Record(i));
-    }
-    let window = number(line, 1, 2);
-    let first = number(line, 3, 1);
-    let second = number(line, 4, 1);
-    Line::Says(Entry::OfBoard(Board {
-        window,
-        first,
-        second,
-    }))
+    (end - from) % 2 == 0
 }
 
 // A job by its allowed byte. The cost of a kind that is not allowed has to be 0.
@@ -165,47 +161,54 @@ fn job_in(allowed: u32, c1: u32, c2: u32, i: u8) -> Line
     }
 }
 
-// A job's line.
-fn job_line(line: &[u8], i: u8) -> Line
-    requires { ⌜ getD (recordIn (now line)) 0 0 ≡ 2 ⌝ }
-    ensures { λ r. ⌜ saysLine r ≡ recordSays i (entryOf (recordIn (now (line .entry)))) ⌝ }
+// What a record says, by its first byte and how many digits its line has.
+fn record_says(size: usize, line: Numbers, i: u8) -> Line
+    ensures { λ r. ⌜ SaysRecord size line i r ⌝ }
 {
-    if line.len() != 20 {
+    let tag = line.head / 256;
+    if size == 20 {
+        if tag == 2 {
+            return job_in(line.head % 256, line.a, line.b, i);
+        }
         return Line::Bad(Refusal::Record(i));
     }
-    let allowed = number(line, 1, 1);
-    let c1 = number(line, 2, 4);
-    let c2 = number(line, 6, 4);
-    job_in(allowed, c1, c2, i)
+    if size == 10 {
+        if tag == 1 {
+            return Line::Says(Entry::OfBoard(Board {
+                window: line.head % 256 * 256 + line.a / 65536 % 256,
+                first: line.a / 256 % 256,
+                second: line.a % 256,
+            }));
+        }
+    }
+    Line::Bad(Refusal::Record(i))
 }
 
-// Line i, by its first byte.
-fn entry(line: &[u8], i: u8) -> Line
-    ensures { λ r. ⌜ saysLine r ≡ lineSays i (now (line .entry)) ⌝ }
+// Line i, which starts at `from`.
+fn entry(text: &[u8], from: usize, line: Numbers, i: u8) -> Line
+    requires { ⌜ Numbered (digitsIn (drop from (now text))) from line ⌝ }
+    ensures { λ r. ⌜ saysLine r ≡ lineSays i (lineIn (drop from (now (text .entry)))) ⌝ }
 {
-    if !spells(line) {
+    let end = line.end;
+    if !is_line(text, from, end) {
         return Line::Bad(Refusal::Digits(i));
     }
-    match byte(line, 0) {
-        1 => board_line(line, i),
-        2 => job_line(line, i),
-        _ => Line::Bad(Refusal::Record(i)),
-    }
+    record_says(end - from, line, i)
 }
 
 // The line of job n, which is line n + 2 of the text.
-fn row_of(line: &[u8], n: usize) -> Row
-    requires { ⌜ n ≤ jobsMost ⌝ }
-    ensures { λ r. ⌜ saysRow r ≡ andThen (lineSays (n + 2) (now (line .entry))) (asJob (n + 2) n) ⌝ }
+fn row_of(text: &[u8], from: usize, line: Numbers, n: usize) -> Row
+    requires { ⌜ (n ≤ jobsMost) × Numbered (digitsIn (drop from (now text))) from line ⌝ }
+    ensures { λ r. ⌜ saysRow r ≡ costsSaid (andThen (lineSays (n + 2) (lineIn (drop from (now (text .entry))))) (asJob (n + 2) n)) ⌝ }
 {
     let i = n as u8 + 2;
-    match entry(line, i) {
+    match entry(text, from, line, i) {
         Line::Bad(refusal) => Row::Wrong(refusal),
         Line::Says(says) => match says {
             Entry::OfBoard(_) => Row::Wrong(Refusal::Order(i)),
             Entry::OfJob(job) => {
                 if n < JOBS_MOST {
-                    Row::Holds(job)
+                    Row::Holds(cost(Kind::First, job), cost(Kind::Second, job))
                 } else {
                     Row::Wrong(Refusal::Jobs)
                 }
@@ -214,45 +217,81 @@ fn row_of(line: &[u8], n: usize) -> Row
     }
 }
 
-// The lines from `from` on, one job each.
-fn read_jobs(text: &[u8], from: usize, board: Board) -> ReadSet
-    ensures { λ r. ⌜ Gives (setFrom board (linesOf (drop from (now (text .entry))))) r ⌝ }
+// Whether columns are too short for some set.
+fn is_short(first: usize, second: usize) -> bool
+    ensures { λ r. ⌜ r ≡ short first second ⌝ }
 {
-    let mut jobs = [Job::OnlyFirst(FirstTicks(0)); JOBS_MOST];
+    if first < JOBS_MOST {
+        return true;
+    }
+    second < JOBS_MOST
+}
+
+// The first n costs of a column go into another, where the others stay.
+fn put_costs(costs: &[u32; JOBS_MOST], n: usize, column: &mut [u32])
+    requires { ⌜ (n ≤ jobsMost) × (n ≤ length (now column)) ⌝ }
+    ensures { λ _. ⌜ now (column .exit) ≡ upto n (λ i. at (now (costs .entry)) i) ++ drop n (now (column .entry)) ⌝ }
+{
+    let mut i: usize = 0;
+    while i < n {
+        column[i] = costs[i];
+        i += 1;
+    }
+}
+
+// The lines from `from` on, one job each.
+fn read_jobs(
+    text: &[u8],
+    from: usize,
+    board: Board,
+    first: &mut [u32],
+    second: &mut [u32],
+) -> Outcome
+    ensures { λ r. ⌜ GivesIn (setFrom board (linesOf (drop from (now (text .entry))))) (now (first .entry)) (now (second .entry)) r (now (first .exit)) (now (second .exit)) ⌝ }
+{
+    let mut costs1 = [0u32; JOBS_MOST];
+    let mut costs2 = [0u32; JOBS_MOST];
     let mut n: usize = 0;
     let mut at = from;
     while at < text.len() {
-        let end = line_end(text, at);
-        match row_of(&text[at..end], n) {
-            Row::Holds(job) => {
-                jobs[n] = job;
+        let line = line_at(text, at);
+        match row_of(text, at, line, n) {
+            Row::Holds(c1, c2) => {
+                costs1[n] = c1;
+                costs2[n] = c2;
             }
             Row::Wrong(refusal) => {
-                return refused(refusal);
+                return Outcome::Refused(refusal);
             }
         }
         n += 1;
-        at = end + 1;
+        at = line.end + 1;
     }
-    set_of(Outcome::Set(board, n), jobs)
+    if is_short(first.len(), second.len()) {
+        return Outcome::Refused(Refusal::Space);
+    }
+    put_costs(&costs1, n, first);
+    put_costs(&costs2, n, second);
+    Outcome::Set(board, n)
 }
 
-// What a text says.
-pub fn read(text: &[u8]) -> ReadSet
-    ensures { λ r. ⌜ Reads (now (text .entry)) r ⌝ }
+// What a text says, with what the jobs cost on each kind at the front of two columns. A refusal changes none of them. Columns that are too short for some
+// set are refused by 7, last of all.
+pub fn read(text: &[u8], first: &mut [u32], second: &mut [u32]) -> Outcome
+    ensures { λ r. ⌜ Reads (now (text .entry)) (now (first .entry)) (now (second .entry)) r (now (first .exit)) (now (second .exit)) ⌝ }
 {
     if TEXT_MOST < text.len() {
-        return refused(Refusal::Digits(0));
+        return Outcome::Refused(Refusal::Digits(0));
     }
     if text.len() == 0 {
-        return refused(Refusal::Order(1));
+        return Outcome::Refused(Refusal::Order(1));
     }
-    let end = line_end(text, 0);
-    match entry(&text[0..end], 1) {
-        Line::Bad(refusal) => refused(refusal),
+    let line = line_at(text, 0);
+    match entry(text, 0, line, 1) {
+        Line::Bad(refusal) => Outcome::Refused(refusal),
         Line::Says(says) => match says {
-            Entry::OfJob(_) => refused(Refusal::Order(1)),
-            Entry::OfBoard(board) => read_jobs(text, end + 1, board),
+            Entry::OfJob(_) => Outcome::Refused(Refusal::Order(1)),
+            Entry::OfBoard(board) => read_jobs(text, line.end + 1, board, first, second),
         },
     }
 }

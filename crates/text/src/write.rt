@@ -1,21 +1,22 @@
 // The writers: the lines of a plan, or of a refusal, into a text that the caller lends.
 // The length of the lines is known before any is written, so a text that is too short stays as it was.
-use crate::ShareLine;
 use crate::Written;
 use model::JOBS_MOST;
 use model::Kind;
 use model::Refusal;
 use model::SLICES_MOST;
-use model::Slice;
 ghost use mathlib.Core.Path.{_≡_};
 ghost use mathlib.Core.List.{[], _∷_, map};
 ghost use Prim.Native.Nat.{_+_, _*_, _/_, _%_, _≤_, _<_, min};
-ghost use lib.ListN.{length, take};
+ghost use lib.ListN.{length};
 ghost use lib.Seq.{sets};
 ghost use Rattle.model.specs.Board.{on};
+ghost use Rattle.model.specs.Columns.{sharesIn};
 ghost use Rattle.model.specs.Limits.{jobsMost, slicesMost};
+ghost use Rattle.model.specs.Packed.{sliceIn, slicesIn};
+ghost use Rattle.model.specs.Split.{share};
 ghost use Rattle.text.specs.Hex.{glyphOf, digitsOf, lineOf, textOf};
-ghost use Rattle.text.specs.Output.{ofLine, shareRecord, shareRecords, sliceRecord, planText, refusalText, Writes};
+ghost use Rattle.text.specs.Output.{shareRecord, shareRecords, sliceRecord, planText, refusalText, Writes};
 
 // The bytes of a line for each record: two digits a byte, and a line feed.
 const COUNT_LINE: usize = 7;
@@ -29,15 +30,17 @@ const REFUSAL_LINE: usize = 7;
 // The most bytes that an answer has: the lines of a plan of all jobs and all slices. clampfern's theorem `answer-size` says that it is enough.
 pub const ANSWER_MOST: usize = COUNT_LINE + SHARE_LINE * JOBS_MOST + SLICE_LINE * SLICES_MOST;
 
-// Writes a plan's lines: 10 with the counts, 11 for each of n jobs, 12 for each of k slices. Above the rows of a table, n and k count as all.
+// Writes a plan's lines: 10 with the counts, 11 for each of n jobs by their ticks on each kind, 12 for each of k slices. Above what a column has, n and k
+// count as all. Ticks have 16 bits, as a line has for them: what a line cannot hold cannot be passed.
 pub fn write_plan(
-    shares: [ShareLine; JOBS_MOST],
+    first: &[u16; JOBS_MOST],
+    second: &[u16; JOBS_MOST],
     n: usize,
-    slices: [Slice; SLICES_MOST],
+    slices: &[u64; SLICES_MOST],
     k: usize,
     text: &mut [u8],
 ) -> Written
-    ensures { λ r. ⌜ Writes (now (text .entry)) (now (text .exit)) (planText (map ofLine (take n shares)) (take k slices)) r ⌝ }
+    ensures { λ r. ⌜ Writes (now (text .entry)) (now (text .exit)) (planText (sharesIn (min n jobsMost) (now (first .entry)) (now (second .entry))) (slicesIn (min k slicesMost) (now (slices .entry)))) r ⌝ }
 {
     let jobs = at_most(n, JOBS_MOST);
     let rows = at_most(k, SLICES_MOST);
@@ -47,7 +50,7 @@ pub fn write_plan(
         return Written::Full(Refusal::Space);
     }
     put_line(&[0x10, jobs as u8, rows as u8], text, 0);
-    put_shares(shares, jobs, text, COUNT_LINE);
+    put_shares(first, second, jobs, text, COUNT_LINE);
     put_slices(slices, rows, text, after_shares);
     Written::Bytes(size)
 }
@@ -68,23 +71,29 @@ pub fn write_refusal(refusal: Refusal, text: &mut [u8]) -> Written
 }
 
 // The lines of the first n shares. Here and below, `sets text at bytes` is the text with the bytes stored from the place `at` on.
-fn put_shares(shares: [ShareLine; JOBS_MOST], n: usize, text: &mut [u8], at: usize)
+fn put_shares(
+    first: &[u16; JOBS_MOST],
+    second: &[u16; JOBS_MOST],
+    n: usize,
+    text: &mut [u8],
+    at: usize,
+)
     requires { ⌜ (n ≤ jobsMost) × (at + 13 * n ≤ length (now text)) ⌝ }
-    ensures { λ _. ⌜ now (text .exit) ≡ sets (now (text .entry)) at (textOf (shareRecords 0 (map ofLine (take n shares)))) ⌝ }
+    ensures { λ _. ⌜ now (text .exit) ≡ sets (now (text .entry)) at (textOf (shareRecords 0 (sharesIn n (now (first .entry)) (now (second .entry))))) ⌝ }
 {
     let mut i = 0;
     let mut to = at;
     while i < n {
-        put_share(i as u8, shares[i], text, to);
+        put_share(i as u8, first[i], second[i], text, to);
         to += SHARE_LINE;
         i += 1;
     }
 }
 
 // The lines of the first k slices.
-fn put_slices(slices: [Slice; SLICES_MOST], k: usize, text: &mut [u8], at: usize)
+fn put_slices(slices: &[u64; SLICES_MOST], k: usize, text: &mut [u8], at: usize)
     requires { ⌜ (k ≤ slicesMost) × (at + 17 * k ≤ length (now text)) ⌝ }
-    ensures { λ _. ⌜ now (text .exit) ≡ sets (now (text .entry)) at (textOf (map sliceRecord (take k slices))) ⌝ }
+    ensures { λ _. ⌜ now (text .exit) ≡ sets (now (text .entry)) at (textOf (map sliceRecord (slicesIn k (now (slices .entry))))) ⌝ }
 {
     let mut i = 0;
     let mut to = at;
@@ -96,12 +105,10 @@ fn put_slices(slices: [Slice; SLICES_MOST], k: usize, text: &mut [u8], at: usize
 }
 
 // The line of a job's share.
-fn put_share(job: u8, share: ShareLine, text: &mut [u8], at: usize)
+fn put_share(job: u8, first: u16, second: u16, text: &mut [u8], at: usize)
     requires { ⌜ at + 13 ≤ length (now text) ⌝ }
-    ensures { λ _. ⌜ now (text .exit) ≡ sets (now (text .entry)) at (lineOf (shareRecord job (ofLine share))) ⌝ }
+    ensures { λ _. ⌜ now (text .exit) ≡ sets (now (text .entry)) at (lineOf (shareRecord job (share first second))) ⌝ }
 {
-    let first = share.first;
-    let second = share.second;
     put_line(
         &[
             0x11,
@@ -116,11 +123,12 @@ fn put_share(job: u8, share: ShareLine, text: &mut [u8], at: usize)
     );
 }
 
-// The line of a slice.
-fn put_slice(slice: Slice, text: &mut [u8], at: usize)
+// The line of a slice that is one number.
+fn put_slice(packed: u64, text: &mut [u8], at: usize)
     requires { ⌜ at + 17 ≤ length (now text) ⌝ }
-    ensures { λ _. ⌜ now (text .exit) ≡ sets (now (text .entry)) at (lineOf (sliceRecord slice)) ⌝ }
+    ensures { λ _. ⌜ now (text .exit) ≡ sets (now (text .entry)) at (lineOf (sliceRecord (sliceIn packed))) ⌝ }
 {
+    let slice = model::slice_in(packed);
     let kind = slice.kind;
     let start = slice.start;
     let length = slice.length;

@@ -25,6 +25,12 @@ enum-told c = search needs
 enum-known-says-2 : tie.Need-enum-known-says-2
 enum-known-says-2 c = search needs
 
+cost-requires : tie.Need-cost-requires
+cost-requires c κs = search needs
+
+cost-requires-2 : tie.Need-cost-requires-2
+cost-requires-2 c κs = search needs
+
 returns : tie.Need-returns
 returns c = rw (← (c .before .before .before .entry .ensures), c .before .refusal .given .1)
 
@@ -32,7 +38,16 @@ returns-2 : tie.Need-returns-2
 returns-2 c = rw (← (c .before .before .before .before .before .entry .ensures), c .before .before .before .says .given .1, c .enum-told .given .1)
 
 returns-3 : tie.Need-returns-3
-returns-3 c = rw (← (c .before .before .before .before .before .before .before .entry .ensures), c .before .before .before .before .before .says .given .1, c .before .before .says2 .given .1, lt-ltb _ _ (c .if1 .taken))
+returns-3 c =
+    let k = c .before .before in
+    rw (
+      ← (k .before .before .before .before .before .before .before .entry .ensures),
+      k .before .before .before .before .before .says .given .1,
+      k .before .before .says2 .given .1,
+      lt-ltb _ _ (k .if1 .taken),
+      c .before .cost .ensures,
+      c .cost2 .ensures,
+    )
 
 returns-4 : tie.Need-returns-4
 returns-4 c = rw (← (c .before .before .before .before .before .before .before .entry .ensures), c .before .before .before .before .before .says .given .1, c .before .before .says2 .given .1, le-ltb _ _ (c .if1 .left))
@@ -48,6 +63,8 @@ row-of-spec =
     enum-known-says
     enum-told
     enum-known-says-2
+    cost-requires
+    cost-requires-2
     returns
     returns-2
     returns-3

@@ -1,7 +1,10 @@
--- `text::write::put_slice` meets its contract: the record that it makes is the definition's, byte by byte. Assumes nothing.
+-- `text::write::put_slice` meets its contract: the record that it makes of the number's slice is the definition's, byte by byte. Assumes nothing.
 use borrow.Author.Needs.{needs}
 use Rattle.text.proofs.write.put_slice.Statement.{statement}
 use Rattle.text.proofs.write.put_slice.Tie as tie
+
+slice-in-requires : tie.Need-slice-in-requires
+slice-in-requires c κs = search needs
 
 kind-byte-requires : tie.Need-kind-byte-requires
 kind-byte-requires c κs = search needs
@@ -34,6 +37,7 @@ pub put-slice-spec : {M : Type 1} → statement M
 put-slice-spec =
     tie.close
     (tie.spec
+    slice-in-requires
     kind-byte-requires
     high-requires
     low-requires
