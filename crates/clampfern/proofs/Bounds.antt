@@ -1,16 +1,16 @@
 -- What is known of an accepted plan, in numbers: every count, share and slice of it is within the bytes that it is written in. Assumes nothing.
---   small           the bounds of an accepted plan
---   tables-in-line  the shares of the code's tables are within a line, also in the rows that the plan does not have
-use mathlib.Core.Path.{_≡_, refl}
+--   small     the bounds of an accepted plan
+--   narrow    so that each slice of it is the slice of its number
+use mathlib.Core.Path.{_≡_}
 use mathlib.Core.List.{List}
-use Prim.Native.Nat.{ℕ, zero, suc, _+_, _-_, _≤_, _<_}
+use Prim.Native.Nat.{ℕ, _+_, _≤_, _<_}
 use native.Mathlib.Omega.{arith}
-use lib.ListN.{length, replicate}
+use lib.ListN.{length}
 use Rattle.model.specs.Board.{coresOf}
 use Rattle.model.specs.Limits.{windowMost, coresMost, jobsMost, slicesMost}
 use Rattle.model.specs.Lists.{All}
-use Rattle.model.specs.Refusal.{Answer, given, refused}
-use Rattle.model.specs.Split.{share}
+use Rattle.model.specs.Packed.{Narrow}
+use Rattle.model.specs.Refusal.{given}
 use Rattle.model.specs.Timetable.{Inside}
 use Rattle.model.specs.declared.Kind.{Kind}
 use Rattle.model.specs.declared.Kind.the-variants.{First, Second}
@@ -18,14 +18,11 @@ use Rattle.model.specs.declared.Board.{Board}
 use Rattle.model.specs.declared.Job.{Job}
 use Rattle.model.specs.declared.Share.{Share}
 use Rattle.model.specs.declared.Slice.{Slice}
-use Rattle.model.proofs.Lists.{all-map, all-append}
+use Rattle.model.proofs.Lists.{all-map}
 use Rattle.model.proofs.Splits.{do-length}
 use Rattle.legal.specs.Lawful.{Lawful}
-use Rattle.planner.specs.Plan.{Plan, planOf, sharesIn}
-use Rattle.planner.specs.Promise.{Filled}
-use Rattle.planner.specs.declared.Tables.{Tables}
+use Rattle.planner.specs.Plan.{Plan, planOf}
 use Rattle.planner.proofs.Plans.{plan-shares, plan-kept, shares-lawful, shares-accepted, accepted-fits}
-use Rattle.clampfern.specs.Answer.{InLine}
 
 pub record Small (p : Plan) : Type 0 where
   pub few-jobs : length (p .shares) ≤ jobsMost
@@ -57,17 +54,6 @@ module _ (board : Board) (js : List Job) (m k : ℕ) {p : Plan} (is : planOf boa
       inside law size s h =
           (omega (arith, h .job, law .few), omega (arith, h .core, few-cores law (s .kind)), omega (arith, h .ends, law .window-most))
 
-none-in-line : (n : ℕ) → All InLine (replicate n (share 0 0))
-none-in-line zero = tt
-none-in-line (suc n) = ((omega arith, omega arith), none-in-line n)
-
-pub tables-in-line : (board : Board) (js : List Job) (m k : ℕ) (t : Tables) → Filled board (length js) js m k t → All InLine (t .shares)
-tables-in-line board js m k t filled =
-    rw (filled .shares)
-    (all-append InLine (sharesIn (planOf board (length js) js m k)) (replicate (jobsMost - t .shared) (share 0 0))
-    (planned-in-line (planOf board (length js) js m k) refl) (none-in-line (jobsMost - t .shared)))
-  where
-    planned-in-line : (x : Answer Plan) → planOf board (length js) js m k ≡ x → All InLine (sharesIn x)
-    planned-in-line (given p) is =
-        all-map (λ (s : Share). s .first .0 + s .second .0 ≤ windowMost) InLine (λ s h. (omega arith, omega arith)) (p .shares) (small board js m k is .each-share)
-    planned-in-line (refused number place) is = tt
+  pub narrow : All Narrow (p .slices)
+  narrow =
+      all-map _ Narrow (λ s h. record { job = omega arith; core = omega arith; start = omega arith; length = omega arith }) (p .slices) (small .each-slice)

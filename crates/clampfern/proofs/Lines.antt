@@ -1,63 +1,131 @@
--- The lines of the code's tables are those of the plan that they hold, and so the answer to the text that was read. Assumes nothing.
-use mathlib.Core.Path.{_≡_, sym, ap, subst, _∙_}
-use mathlib.Core.List.{List, _++_}
-use Prim.Native.Nat.{ℕ, _≤_}
+-- The lines of a plan in columns are the plan's, and those of the plan of what was read are the answer to the text. Assumes nothing.
+--   columnsText     the lines of the code's columns, or of its refusal
+--   columns-planned, columns-refused   they are those of the plan of the set
+--   read-planned, read-refused   what was read from a text into full columns is answered as the text is
+use mathlib.Core.Path.{_≡_, refl, sym, ap, subst, _∙_}
+use mathlib.Core.List.{List, map}
+use Prim.Native.Nat.{ℕ, zero, suc, _-_, min}
+use native.Mathlib.Numerals.{unary-clauses}
 use native.Mathlib.Omega.{arith}
-use lib.ListN.{length, take}
-use lib.Seq.{take-append-seam, length-take-le}
+use borrow.Author.Tests.{le-ltb}
+use lib.ListN.{length, drop, replicate}
+use Rattle.model.specs.Columns.{jobsIn, seen, sharesIn as sharesFrom}
 use Rattle.model.specs.Limits.{jobsMost, slicesMost}
-use Rattle.model.specs.Lists.{All}
+use Rattle.model.specs.Packed.{packOf, slicesIn as slicesFrom}
 use Rattle.model.specs.Refusal.{Answer, given, refused, andThen, numberOf, placeOf}
+use Rattle.model.specs.Split.{ticksOn}
+use Rattle.model.specs.declared.Kind.the-variants.{First, Second}
 use Rattle.model.specs.declared.Board.{Board}
 use Rattle.model.specs.declared.Job.{Job}
+use Rattle.model.specs.declared.Refusal.{Refusal}
 use Rattle.model.specs.declared.Share.{Share}
-use Rattle.model.specs.declared.Slice.{Slice}
-use Rattle.text.specs.Input.{Input, inputOf}
-use Rattle.text.specs.Output.{planText, refusedText, Writes}
+use Rattle.model.proofs.Columns.{costs-back}
+use Rattle.slices.specs.Table.{tableOf}
+use Rattle.split.specs.Shares.{sharesOf}
+use Rattle.split.proofs.Seen.{shares-seen}
+use Rattle.text.specs.Input.{Input, Head, inputOf, inColumns, Gives, Reads}
+use Rattle.text.specs.Output.{planText, refusedText, refusalText, Writes}
+use Rattle.text.specs.declared.Outcome.{Outcome}
+use Rattle.text.specs.declared.Outcome.the-variants.{Set, Refused as Unread}
 use Rattle.text.specs.declared.Written.{Written}
-use Rattle.planner.specs.Plan.{Plan, Counts, planOf, sharesIn, slicesIn, countsIn, saysPlanned}
-use Rattle.planner.specs.Promise.{Filled}
+use Rattle.planner.specs.Plan.{Plan, Counts, fitted, planOf, columnsOf, sharesIn, slicesIn, countsIn, saysPlanned, front}
+use Rattle.planner.specs.Promise.{Columned}
 use Rattle.planner.specs.declared.Planned.{Planned}
 use Rattle.planner.specs.declared.Planned.the-variants.{Plan as Counted, Refused}
-use Rattle.planner.specs.declared.Tables.{Tables}
-use Rattle.clampfern.specs.Answer.{planned, linesFor, answerText, tablesBy, tablesText, InLine}
-use Rattle.clampfern.proofs.Bounds.{tables-in-line}
+use Rattle.planner.proofs.Columned.{shares-front, slices-front}
+use Rattle.planner.proofs.Plans.{table-asks}
+use Rattle.clampfern.specs.Answer.{planned, linesFor, answerText}
+use Rattle.clampfern.proofs.Bounds.{small, narrow}
 
 never : {A : Type 0} → _≡_ {A = ℕ} 0 1 → A
 never z = absurd (omega arith)
 
-module _ (t : Tables) where
-  lines : (r : Planned) (x : Answer Plan) (zs : List Share) (ys : List Slice) → saysPlanned r ≡ countsIn x
-      → t .shares ≡ sharesIn x ++ zs → t .slices ≡ slicesIn x ++ ys → tablesBy r t ≡ linesFor x
-  lines (Counted jobs slices) (given p) zs ys says shares-are slices-are =
-      let counts : _≡_ {A = Counts} (record { jobs = jobs; slices = slices }) (record { jobs = length (p .shares); slices = length (p .slices) }) = cc in
-      let a : take jobs (t .shares) ≡ p .shares = rw (shares-are, ap (λ (c : Counts). c .jobs) counts) (take-append-seam (p .shares) zs) in
-      let b : take slices (t .slices) ≡ p .slices = rw (slices-are, ap (λ (c : Counts). c .slices) counts) (take-append-seam (p .slices) ys) in
-      ap (λ (ss : List Share). planText ss (take slices (t .slices))) a ∙ ap (λ (rows : List Slice). planText (p .shares) rows) b
-  lines (Counted jobs slices) (refused number place) zs ys says shares-are slices-are = never (cc)
-  lines (Refused r) (given p) zs ys says shares-are slices-are = never (cc)
-  lines (Refused r) (refused number place) zs ys says shares-are slices-are =
-      let a : numberOf r ≡ number = cc in
-      let b : placeOf r ≡ place = cc in
-      ap (λ (x : ℕ). refusedText x (placeOf r)) a ∙ ap (λ (x : ℕ). refusedText number x) b
+abbrev columnsText : Planned → (s1 s2 rows : List ℕ) → List ℕ
+columnsText (Counted jobs k) s1 s2 rows = planText (sharesFrom (min jobs jobsMost) s1 s2) (slicesFrom (min k slicesMost) rows)
+columnsText (Refused r) s1 s2 rows = refusalText r
 
-  tables-lines : (board : Board) (n : ℕ) (js : List Job) (m k : ℕ) → Filled board n js m k t → tablesText t ≡ linesFor (planOf board n js m k)
-  tables-lines board n js m k filled = lines (t .planned) (planOf board n js m k) _ _ (filled .says) (filled .shares) (filled .slices)
+refusal-lines : (r : Refusal) {number place : ℕ} → numberOf r ≡ number → placeOf r ≡ place → refusalText r ≡ refusedText number place
+refusal-lines r e f = rw (e, f)
 
-  -- The tables of the first n of an array of jobs, as they are read from a text.
-  module _ (board : Board) (n : ℕ) (jobs : List Job) (full : length jobs ≡ jobsMost) (few : n ≤ jobsMost)
-      (filled : Filled board n (take n jobs) jobsMost slicesMost t) where
-    counted : Filled board (length (take n jobs)) (take n jobs) jobsMost slicesMost t
-    counted = rw (length-take-le n jobs (omega arith)) filled
+module _ (board : Board) (js : List Job) where
+  abbrev plan : Answer Plan
+  plan = planOf board (length js) js jobsMost slicesMost
 
-    pub tables-short : All InLine (t .shares)
-    tables-short = tables-in-line board (take n jobs) jobsMost slicesMost t counted
+  -- Columns that are long enough for every set hold its plan.
+  columns-plan : columnsOf board (length js) js jobsMost jobsMost slicesMost ≡ plan
+  columns-plan = go (sharesOf board (length js) js) refl
+    where
+      made : List Share → Plan
+      made ss = record { shares = ss; slices = tableOf (board .window) ss }
 
-    pub tables-answer : (text : List ℕ) (read : List Job) → jobs ≡ read → given (record { board = board; jobs = take n read }) ≡ inputOf text → tablesText t ≡ answerText text
-    tables-answer text read same says =
-        tables-lines board (length (take n jobs)) (take n jobs) jobsMost slicesMost counted ∙
-        ap (λ (js : List Job). linesFor (planned (record { board = board; jobs = take n js }))) same ∙
-        ap (λ (x : Answer Input). linesFor (andThen x planned)) says
+      go : (x : Answer (List Share)) → sharesOf board (length js) js ≡ x
+          → andThen x (λ (ss : List Share). given (made ss)) ≡ andThen x (λ (ss : List Share). fitted jobsMost slicesMost (made ss))
+      go (given ss) is =
+          let asks = table-asks board (length js) js refl is in
+          rw (le-ltb jobsMost (length ss) (asks .few), le-ltb slicesMost (length (tableOf (board .window) ss)) (asks .rows))
+      go (refused number place) is = refl
+
+  module _ (s1 s2 rows : List ℕ) {s1′ s2′ rows′ : List ℕ} where
+    lines : (r : Planned) (x : Answer Plan) → plan ≡ x → saysPlanned r ≡ countsIn x → s1′ ≡ front (map (ticksOn First) (sharesIn x)) s1
+        → s2′ ≡ front (map (ticksOn Second) (sharesIn x)) s2 → rows′ ≡ front (map packOf (slicesIn x)) rows → columnsText r s1′ s2′ rows′ ≡ linesFor x
+    lines (Counted jobs k) (given p) is says first second slices =
+        let counts : _≡_ {A = Counts} (record { jobs = jobs; slices = k }) (record { jobs = length (p .shares); slices = length (p .slices) }) = cc in
+        let within = small board js jobsMost slicesMost is in
+        let all-jobs : min jobs jobsMost ≡ length (p .shares) = omega (arith, ap (λ (c : Counts). c .jobs) counts, within .few-jobs) in
+        let all-rows : min k slicesMost ≡ length (p .slices) = omega (arith, ap (λ (c : Counts). c .slices) counts, within .few-slices) in
+        let ss-back : sharesFrom (min jobs jobsMost) s1′ s2′ ≡ p .shares = rw (all-jobs, first, second) (shares-front (p .shares) _ _) in
+        let rows-back : slicesFrom (min k slicesMost) rows′ ≡ p .slices = rw (all-rows, slices) (slices-front (p .slices) _ (narrow board js jobsMost slicesMost is)) in
+        rw (ss-back, rows-back)
+    lines (Counted jobs k) (refused number place) is says first second slices = never (cc)
+    lines (Refused r) (given p) is says first second slices = never (cc)
+    lines (Refused r) (refused number place) is says first second slices = refusal-lines r (cc) (cc)
+
+  -- The code's columns, which are as long as every set asks.
+  module _ {n : ℕ} (size : length js ≡ n) {s1 s2 rows s1′ s2′ rows′ : List ℕ} {r : Planned} (c : Columned board n js s1 s2 rows r s1′ s2′ rows′)
+      (full1 : length s1 ≡ jobsMost) (full2 : length s2 ≡ jobsMost) (full : length rows ≡ slicesMost) where
+    columns-lines : columnsText r s1′ s2′ rows′ ≡ linesFor (planOf board n js jobsMost slicesMost)
+    columns-lines =
+        let same : columnsOf board n js (length s1) (length s2) (length rows) ≡ plan = rw (full1, full2, full, ← size) columns-plan in
+        rw size at (lines s1 s2 rows r plan refl (rw same at (c .says)) (rw same at (c .first)) (rw same at (c .second)) (rw same at (c .slices)))
+
+    pub columns-planned : {jobs k : ℕ} → r ≡ Counted jobs k
+        → planText (sharesFrom (min jobs jobsMost) s1′ s2′) (slicesFrom (min k slicesMost) rows′) ≡ linesFor (planOf board n js jobsMost slicesMost)
+    columns-planned is = sym (ap (λ (p : Planned). columnsText p s1′ s2′ rows′) is) ∙ columns-lines
+
+    pub columns-refused : {refusal : Refusal} → r ≡ Refused refusal → refusalText refusal ≡ linesFor (planOf board n js jobsMost slicesMost)
+    columns-refused is = sym (ap (λ (p : Planned). columnsText p s1′ s2′ rows′) is) ∙ columns-lines
+
+-- ---- what was read
+plan-seen : (board : Board) (n : ℕ) (js : List Job) (m k : ℕ) → planOf board n (map seen js) m k ≡ planOf board n js m k
+plan-seen board n js m k =
+    ap (λ (x : Answer (List Share)). andThen x (λ (ss : List Share). fitted m k (record { shares = ss; slices = tableOf (board .window) ss }))) (shares-seen board n js)
+
+pub drop-replicate : (n m x : ℕ) → drop n (replicate m x) ≡ replicate (m - n) x
+drop-replicate zero m x = simp unary-clauses
+drop-replicate (suc n) zero x = let e : 0 - suc n ≡ 0 = omega arith in rw e
+drop-replicate (suc n) (suc m) x = simp unary-clauses (drop-replicate n m x)
+
+-- Columns that are as long as every set asks, and that have no cost before.
+abbrev zeros : List ℕ
+zeros = replicate jobsMost 0
+
+module _ (text : List ℕ) {c1 c2 : List ℕ} {r : Outcome} (reads : Reads text zeros zeros r c1 c2) where
+  pub read-planned : (board : Board) (n : ℕ) → r ≡ Set board n → linesFor (planOf board n (jobsIn n c1 c2) jobsMost slicesMost) ≡ answerText text
+  read-planned board n is = go (inputOf text) reads
+    where
+      go : (x : Answer Input) → Gives x (inColumns x jobsMost jobsMost) zeros zeros r c1 c2
+          → linesFor (planOf board n (jobsIn n c1 c2) jobsMost slicesMost) ≡ linesFor (andThen x planned)
+      go (given input) g =
+          let head : _≡_ {A = Head} (record { board = board; count = n }) (record { board = input .board; count = length (input .jobs) }) = cc in
+          rw (g .first, g .second, drop-replicate (length (input .jobs)) jobsMost 0, ap (λ (h : Head). h .board) head, ap (λ (h : Head). h .count) head, costs-back (input .jobs) (g .few), plan-seen (input .board) (length (input .jobs)) (input .jobs) jobsMost slicesMost)
+      go (refused number place) g = never (cc)
+
+  pub read-refused : (refusal : Refusal) → r ≡ Unread refusal → refusalText refusal ≡ answerText text
+  read-refused refusal is = go (inputOf text) reads
+    where
+      go : (x : Answer Input) → Gives x (inColumns x jobsMost jobsMost) zeros zeros r c1 c2 → refusalText refusal ≡ linesFor (andThen x planned)
+      go (given input) g = never (cc)
+      go (refused number place) g = refusal-lines refusal (cc) (cc)
 
 -- What was written, by another name for its lines.
 pub writes-as : {before after lines lines′ : List ℕ} {r : Written} → Writes before after lines r → lines ≡ lines′ → Writes before after lines′ r

@@ -2,26 +2,20 @@
 --   planned      the plan of a text's set, on tables that are long enough for any
 --   linesFor     the lines of a plan, or of its refusal
 --   answerText   the answer to a text: its plan's lines, or one line with the first refusal
---   tablesText   the same from the code's tables
---   InLine       a share whose ticks a line can hold
 --   Entered      the C entry: the count of the bytes written, and 0 where the lent text is too short
 --   Answered     the answer by value: the count, the lines, and zeros behind them
 -- Assumes nothing.
 use mathlib.Core.Bool.{cond}
 use mathlib.Core.List.{List, _++_}
 use mathlib.Core.Path.{_≡_}
-use Prim.Native.Nat.{ℕ, _-_, _≤_}
+use Prim.Native.Nat.{ℕ, _-_}
 use lib.Dec.{ltb}
-use lib.ListN.{length, take, replicate}
-use Rattle.model.specs.Limits.{windowMost, jobsMost, slicesMost}
+use lib.ListN.{length, replicate}
+use Rattle.model.specs.Limits.{jobsMost, slicesMost}
 use Rattle.model.specs.Refusal.{Answer, given, refused, andThen}
-use Rattle.model.specs.declared.Share.{Share}
 use Rattle.text.specs.Input.{Input, inputOf}
-use Rattle.text.specs.Output.{planText, refusedText, refusalText, written, answerMost}
+use Rattle.text.specs.Output.{planText, refusedText, written, answerMost}
 use Rattle.planner.specs.Plan.{Plan, planOf}
-use Rattle.planner.specs.declared.Planned.{Planned}
-use Rattle.planner.specs.declared.Planned.the-variants.{Plan as Counted, Refused}
-use Rattle.planner.specs.declared.Tables.{Tables}
 use Rattle.clampfern.specs.declared.AnswerLines.{AnswerLines}
 
 abbrev pub planned : Input → Answer Plan
@@ -33,17 +27,6 @@ linesFor (refused number place) = refusedText number place
 
 abbrev pub answerText : List ℕ → List ℕ
 answerText text = linesFor (andThen (inputOf text) planned)
-
-abbrev pub tablesBy : Planned → Tables → List ℕ
-tablesBy (Counted jobs slices) t = planText (take jobs (t .shares)) (take slices (t .slices))
-tablesBy (Refused r) t = refusalText r
-
-abbrev pub tablesText : Tables → List ℕ
-tablesText t = tablesBy (t .planned) t
-
--- The longest window has 65,535 ticks, the most that two bytes say.
-abbrev pub InLine : Share → Type 0
-InLine s = (s .first .0 ≤ windowMost) × (s .second .0 ≤ windowMost)
 
 pub record Entered (asked before after : List ℕ) (r : ℕ) : Type 0 where
   pub count : r ≡ cond (ltb (length before) (length (answerText asked))) 0 (length (answerText asked))

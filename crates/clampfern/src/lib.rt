@@ -1,17 +1,16 @@
 // The planner from text to text, and its C entry: the library that users link (include/clampfern.h).
 ghost use mathlib.Core.Path.{_≡_};
-ghost use mathlib.Core.List.{map};
-ghost use Rattle.model.specs.Lists.{All};
-ghost use Rattle.text.specs.Output.{ofLine, Writes};
-ghost use Rattle.clampfern.specs.Answer.{InLine, answerText, tablesText, Entered, Answered};
+ghost use Rattle.model.specs.Columns.{jobsIn};
+ghost use Rattle.model.specs.Limits.{jobsMost, slicesMost};
+ghost use Rattle.text.specs.Output.{Writes};
+ghost use Rattle.planner.specs.Plan.{planOf};
+ghost use Rattle.clampfern.specs.Answer.{linesFor, answerText, Entered, Answered};
+use model::Board;
 use model::JOBS_MOST;
 use model::SLICES_MOST;
-use model::Share;
 use planner::Planned;
-use planner::Tables;
 use text::ANSWER_MOST;
 use text::Outcome;
-use text::ShareLine;
 use text::Written;
 
 // The answer to a text by value: its lines, and how many bytes they have. All other bytes are zero.
@@ -20,38 +19,32 @@ pub struct AnswerLines {
     pub size: usize,
 }
 
-// The ticks of all shares as their lines hold them: a window has no more ticks than two bytes can say.
-fn lines_of(shares: [Share; JOBS_MOST]) -> [ShareLine; JOBS_MOST]
-    requires { ⌜ All InLine shares ⌝ }
-    ensures { λ r. ⌜ map ofLine r ≡ shares ⌝ }
+// The lines of the plan of a set in columns, or of its refusal. The plan's own columns are long enough for every set.
+fn answer_in(
+    board: Board,
+    first: &[u32; JOBS_MOST],
+    second: &[u32; JOBS_MOST],
+    n: usize,
+    out: &mut [u8],
+) -> Written
+    ensures { λ r. ⌜ Writes (now (out .entry)) (now (out .exit)) (linesFor (planOf board n (jobsIn n (now (first .entry)) (now (second .entry))) jobsMost slicesMost)) r ⌝ }
 {
-    let mut lines = [ShareLine {
-        first: 0,
-        second: 0,
-    }; JOBS_MOST];
-    let mut i: usize = 0;
-    while i < JOBS_MOST {
-        let share = shares[i];
-        let first = share.first.0 as u16;
-        let second = share.second.0 as u16;
-        lines[i] = ShareLine { first, second };
-        i += 1;
-    }
-    lines
-}
-
-// The lines of a plan by value, or of its refusal.
-fn write_tables(tables: Tables, out: &mut [u8]) -> Written
-    requires { ⌜ All InLine (tables .shares) ⌝ }
-    ensures { λ r. ⌜ Writes (now (out .entry)) (now (out .exit)) (tablesText tables) r ⌝ }
-{
-    let planned = tables.planned;
+    let mut shares1 = [0u16; JOBS_MOST];
+    let mut shares2 = [0u16; JOBS_MOST];
+    let mut slices = [0u64; SLICES_MOST];
+    let planned = planner::plan_columns(
+        board,
+        first,
+        second,
+        n,
+        &mut shares1,
+        &mut shares2,
+        &mut slices,
+    );
     match planned {
         Planned::Refused(refusal) => text::write_refusal(refusal, out),
         Planned::Plan(jobs, rows) => {
-            let shares = tables.shares;
-            let slices = tables.slices;
-            text::write_plan(lines_of(shares), jobs, slices, rows, out)
+            text::write_plan(&shares1, &shares2, jobs, &slices, rows, out)
         }
     }
 }
@@ -60,17 +53,11 @@ fn write_tables(tables: Tables, out: &mut [u8]) -> Written
 pub fn plan_text(text: &[u8], out: &mut [u8]) -> Written
     ensures { λ r. ⌜ Writes (now (out .entry)) (now (out .exit)) (answerText (now (text .entry))) r ⌝ }
 {
-    let set = text::read(text);
-    let outcome = set.outcome;
-    match outcome {
+    let mut first = [0u32; JOBS_MOST];
+    let mut second = [0u32; JOBS_MOST];
+    match text::read(text, &mut first, &mut second) {
         Outcome::Refused(refusal) => text::write_refusal(refusal, out),
-        Outcome::Set(board, n) => {
-            let jobs = text::jobs_of(set);
-            write_tables(
-                planner::plan_by_value(board, jobs, n, JOBS_MOST, SLICES_MOST),
-                out,
-            )
-        }
+        Outcome::Set(board, n) => answer_in(board, &first, &second, n, out),
     }
 }
 

@@ -1,75 +1,59 @@
 -- `clampfern::plan_text` meets its contract: what was read is planned, and what was refused has its line. Assumes nothing.
-use mathlib.Core.Path.{_≡_, ap}
-use lib.ListN.{length}
-use Rattle.model.specs.Limits.{jobsMost}
-use Rattle.model.specs.Refusal.{Answer, andThen}
-use Rattle.text.specs.Input.{Input}
-use Rattle.clampfern.specs.Answer.{planned, linesFor}
-use Rattle.clampfern.proofs.Lines.{tables-short, tables-answer, writes-as}
 use borrow.Author.Needs.{needs}
+use Rattle.clampfern.proofs.Lines.{read-planned, read-refused, writes-as}
 use Rattle.clampfern.proofs.plan_text.Statement.{statement}
 use Rattle.clampfern.proofs.plan_text.Tie as tie
+
+slice-aggregate-read : tie.Need-slice-aggregate-read
+slice-aggregate-read c = search needs
+
+slice-aggregate-read-2 : tie.Need-slice-aggregate-read-2
+slice-aggregate-read-2 c = search needs
 
 read-requires : tie.Need-read-requires
 read-requires c κs = search needs
 
-enum-known-outcome : tie.Need-enum-known-outcome
-enum-known-outcome c = search needs
+enum-known-refusal : tie.Need-enum-known-refusal
+enum-known-refusal c = search needs
 
 write-refusal-requires : tie.Need-write-refusal-requires
 write-refusal-requires c κs = search needs
 
-enum-known-outcome-2 : tie.Need-enum-known-outcome-2
-enum-known-outcome-2 c = search needs
+enum-known-board : tie.Need-enum-known-board
+enum-known-board c = search needs
 
-jobs-of-requires : tie.Need-jobs-of-requires
-jobs-of-requires c κs = search needs
-
-plan-by-value-requires : tie.Need-plan-by-value-requires
-plan-by-value-requires c κs = search needs
-
-write-tables-requires : tie.Need-write-tables-requires
-write-tables-requires c κs =
-    let j = c .before .before in
-    let d = j .before .before in
-    let few = rw (d .outcome2 .given .1) at (d .before .before .read .ensures .few) in
-    let full : length (j .jobs-of .result) ≡ jobsMost = search needs in
-    tables-short (c .before .plan-by-value .result) _ _ (j .jobs-of .result) full few (c .before .plan-by-value .ensures)
+answer-in-requires : tie.Need-answer-in-requires
+answer-in-requires c κs = search needs
 
 same-length : tie.Need-same-length
 same-length c = search needs
 
 returns : tie.Need-returns
 returns c =
-    let d = c .before .before .before .before .before in
-    let says = rw (d .outcome .given .1) at (d .before .before .read .ensures .says) in
-    writes-as (c .before .before .write-refusal .ensures) (ap (λ (x : Answer Input). linesFor (andThen x planned)) says)
+    let told = c .before .before .before .before .before in
+    let called = told .before .before .before .before in
+    writes-as (c .before .before .write-refusal .ensures) (read-refused _ (called .read .ensures) _ (told .refusal .given .1))
 
 same-length-2 : tie.Need-same-length-2
 same-length-2 c = search needs
 
 returns-2 : tie.Need-returns-2
 returns-2 c =
-    let d = c .before .before .before .before .before .before .before in
-    let j = c .before .before .before .before .before in
-    let says = rw (d .outcome2 .given .1) at (d .before .before .read .ensures .says) in
-    let few = rw (d .outcome2 .given .1) at (d .before .before .read .ensures .few) in
-    let full : length (j .jobs-of .result) ≡ jobsMost = search needs in
-    writes-as (c .before .before .write-tables .ensures)
-    (tables-answer (c .before .before .before .before .plan-by-value .result) _ _ (j .jobs-of .result) full few
-    (c .before .before .before .before .plan-by-value .ensures) _ _ (j .jobs-of .ensures) says)
+    let told = c .before .before .before .before .before .before .before in
+    let called = told .before .before .before .before in
+    writes-as (c .before .before .answer-in .ensures) (read-planned _ (called .read .ensures) _ _ (told .board .given .1))
 
 pub plan-text-spec : {M : Type 1} → statement M
 plan-text-spec =
     tie.close
     (tie.spec
+    slice-aggregate-read
+    slice-aggregate-read-2
     read-requires
-    enum-known-outcome
+    enum-known-refusal
     write-refusal-requires
-    enum-known-outcome-2
-    jobs-of-requires
-    plan-by-value-requires
-    write-tables-requires
+    enum-known-board
+    answer-in-requires
     same-length
     returns
     same-length-2
