@@ -16,12 +16,18 @@ use model::Share;
 use model::Slice;
 use planner::Moved;
 use planner::Planned;
-use planner::Tables;
 use slices::Moves;
 use split::Balanced;
 use streams::Got;
 use streams::INPUT_MOST;
 use text::Outcome;
+
+// What was planned into columns, and the rows that these then hold.
+struct Columns {
+    planned: Planned,
+    shares: [Share; JOBS_MOST],
+    slices: [Slice; SLICES_MOST],
+}
 
 // What was planned into lent tables, and the tables after it.
 struct Lent {
@@ -245,8 +251,128 @@ fn plan_over_marks(board: Board, jobs: [Job; JOBS_MOST], n: usize, m: usize, k: 
     plan_lent(board, jobs, n, shares, m, slices, k)
 }
 
+// The jobs of two columns of costs.
+fn jobs_of(first: [u32; JOBS_MOST], second: [u32; JOBS_MOST]) -> [Job; JOBS_MOST] {
+    let mut jobs = [Job::OnlyFirst(FirstTicks(0)); JOBS_MOST];
+    let mut i: usize = 0;
+    while i < JOBS_MOST {
+        jobs[i] = model::job_of(first[i], second[i]);
+        i = i + 1;
+    }
+    jobs
+}
+
+// The shares of two columns of ticks.
+fn shares_of(first: [u16; JOBS_MOST], second: [u16; JOBS_MOST]) -> [Share; JOBS_MOST] {
+    let mut shares = [share_mark(); JOBS_MOST];
+    let mut i: usize = 0;
+    while i < JOBS_MOST {
+        shares[i] = Share {
+            first: FirstTicks(first[i] as u32),
+            second: SecondTicks(second[i] as u32),
+        };
+        i = i + 1;
+    }
+    shares
+}
+
+// The slices of a column of numbers.
+fn slices_of(packed: [u64; SLICES_MOST]) -> [Slice; SLICES_MOST] {
+    let mut slices = [slice_mark(); SLICES_MOST];
+    let mut i: usize = 0;
+    while i < SLICES_MOST {
+        slices[i] = model::slice_in(packed[i]);
+        i = i + 1;
+    }
+    slices
+}
+
+// The planning call over columns.
+fn plan_in_columns(board: Board, jobs: [Job; JOBS_MOST], n: usize) -> Columns {
+    let first = model::costs(Kind::First, jobs, n);
+    let second = model::costs(Kind::Second, jobs, n);
+    let mut shares1 = [0u16; JOBS_MOST];
+    let mut shares2 = [0u16; JOBS_MOST];
+    let mut packed = [0u64; SLICES_MOST];
+    let planned = planner::plan_columns(
+        board,
+        &first,
+        &second,
+        n,
+        &mut shares1,
+        &mut shares2,
+        &mut packed,
+    );
+    Columns {
+        planned: planned,
+        shares: shares_of(shares1, shares2),
+        slices: slices_of(packed),
+    }
+}
+
+// Whether a column of ticks holds marks alone, and whether one of slices does.
+fn are_tick_marks(column: [u16; JOBS_MOST]) -> bool {
+    let mut i: usize = 0;
+    while i < JOBS_MOST {
+        if column[i] != 65535 {
+            return false;
+        }
+        i = i + 1;
+    }
+    true
+}
+
+fn are_packed_marks(column: [u64; SLICES_MOST]) -> bool {
+    let mut i: usize = 0;
+    while i < SLICES_MOST {
+        if column[i] != 65535 {
+            return false;
+        }
+        i = i + 1;
+    }
+    true
+}
+
+// Whether columns of so many rows are refused by 7 and keep their marks.
+fn is_too_short(
+    board: Board,
+    jobs: [Job; JOBS_MOST],
+    n: usize,
+    m1: usize,
+    m2: usize,
+    k: usize,
+) -> bool
+    requires { ⌜ (m1 ≤ jobsMost) × ((m2 ≤ jobsMost) × (k ≤ slicesMost)) ⌝ }
+{
+    let first = model::costs(Kind::First, jobs, n);
+    let second = model::costs(Kind::Second, jobs, n);
+    let mut shares1 = [65535u16; JOBS_MOST];
+    let mut shares2 = [65535u16; JOBS_MOST];
+    let mut packed = [65535u64; SLICES_MOST];
+    let planned = planner::plan_columns(
+        board,
+        &first,
+        &second,
+        n,
+        &mut shares1[..m1],
+        &mut shares2[..m2],
+        &mut packed[..k],
+    );
+    same_planned(planned, Planned::Refused(Refusal::Space))
+        && are_tick_marks(shares1)
+        && are_tick_marks(shares2)
+        && are_packed_marks(packed)
+}
+
+// Whether columns that one set could be too long for are refused, each in turn, whatever the set.
+fn is_refused_short(board: Board, jobs: [Job; JOBS_MOST], n: usize) -> bool {
+    is_too_short(board, jobs, n, JOBS_MOST - 1, JOBS_MOST, SLICES_MOST)
+        && is_too_short(board, jobs, n, JOBS_MOST, JOBS_MOST - 1, SLICES_MOST)
+        && is_too_short(board, jobs, n, JOBS_MOST, JOBS_MOST, SLICES_MOST - 1)
+}
+
 // Whether the tables hold the rows of the plan that was answered, and marks behind them. A refusal has no rows.
-fn has_its_rows(lent: Lent, t: Tables) -> bool {
+fn has_its_rows(lent: Lent, t: Columns) -> bool {
     let planned = lent.planned;
     let shares = lent.shares;
     let slices = lent.slices;
@@ -261,7 +387,7 @@ fn has_its_rows(lent: Lent, t: Tables) -> bool {
 }
 
 // Whether a lent call answered so, and left the rows that go with it.
-fn is_answered(lent: Lent, answer: Planned, t: Tables) -> bool {
+fn is_answered(lent: Lent, answer: Planned, t: Columns) -> bool {
     let planned = lent.planned;
     same_planned(planned, answer) && has_its_rows(lent, t)
 }
@@ -273,7 +399,7 @@ fn is_right_at_the_edge(
     n: usize,
     shared: usize,
     sliced: usize,
-    t: Tables,
+    t: Columns,
 ) -> bool
     requires { ⌜ (n ≤ jobsMost) × ((shared ≤ jobsMost) × (sliced ≤ slicesMost)) ⌝ }
 {
@@ -296,13 +422,17 @@ fn is_right_at_the_edge(
     true
 }
 
-// Whether the lent call into long tables answered as `moves` did and left the rows of the plan by value; and where there is a plan, whether the moves
-// are those of the rows that were written, and the call is right at the edge.
+// Whether the lent call into long tables answered as `moves` and the call over columns did, and left the rows of the columns; and where there is a plan, whether the moves
+// are those of the rows that were written, the call is right at the edge, and the call over columns refuses short ones.
 fn is_right(board: Board, jobs: [Job; JOBS_MOST], n: usize, lent: Lent, moved: Moved) -> bool
     requires { ⌜ n ≤ jobsMost ⌝ }
 {
-    let t = planner::plan_by_value(board, jobs, n, JOBS_MOST, SLICES_MOST);
+    let t = plan_in_columns(board, jobs, n);
     let answer = moved.planned;
+    let in_columns = t.planned;
+    if !same_planned(in_columns, answer) {
+        return false;
+    }
     if !is_answered(lent, answer, t) {
         return false;
     }
@@ -319,6 +449,7 @@ fn is_right(board: Board, jobs: [Job; JOBS_MOST], n: usize, lent: Lent, moved: M
             let rows = lent.slices;
             are_moves(moves, shared, rows, sliced)
                 && is_right_at_the_edge(board, jobs, n, shared, sliced, t)
+                && is_refused_short(board, jobs, n)
         }
     }
 }
@@ -345,12 +476,12 @@ fn show(board: Board, jobs: [Job; JOBS_MOST], n: usize)
 
 // The facts of a text.
 fn show_text(text: &[u8]) {
-    let set = text::read(text);
-    let outcome = set.outcome;
-    match outcome {
+    let mut first = [0u32; JOBS_MOST];
+    let mut second = [0u32; JOBS_MOST];
+    match text::read(text, &mut first, &mut second) {
         Outcome::Refused(refusal) => put_refused(refusal),
         Outcome::Set(board, n) => {
-            let jobs = text::jobs_of(set);
+            let jobs = jobs_of(first, second);
             show(board, jobs, n);
         }
     }
