@@ -9,6 +9,9 @@
 /* The most bytes that an answer can have: the lines of a plan of 64 jobs and 94 slices. A buffer of this size is never too short. */
 #define CLAMPFERN_OUT_MOST 2437
 
+/* The bytes of stack that are enough for a call, with its return address and all that it calls but memcpy and memset, which are the caller's. */
+#define CLAMPFERN_STACK_MOST 4096
+
 #ifdef __cplusplus
 extern "C" {
 #endif

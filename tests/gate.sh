@@ -38,8 +38,12 @@ libraries=(model text clampfern)
         echo 'test result: ok. 100 passed; 0 failed; 0 ignored; 0 measured; 0 filtered out; finished in 0.00s'
     done >cargo
     printf '#!/bin/sh\ncat\n' >frames
-    printf '#!/bin/sh\ncat tests/c/example.stdout\n' >example
+    printf '#!/bin/sh\ncat tests/c/example.stdout\n' | tee bench >example
     printf '%s\n' 'lib.a[x.o]:' 'clampfern_plan T 0 1' 'memcpy U' 'memset U' >symbols
+    printf '%s\n' '0000 <clampfern_plan>:' $'   0:\tpush   %rbx' $'   1:\tsub    $0x10,%rsp' $'   2:\tcall   10 <split::steps>' $'   3:\tret' \
+        '0010 <split::steps>:' $'  10:\tmov    %eax,-0x18(%rsp)' $'  11:\tret' '0020 <facts::plan_over_marks>:' $'  20:\tsub    $0xa00,%rsp' $'  21:\tret' >code
+    echo 'texts 10' >counted
+    printf '%s\n' '10 ( 1.0%)  ???:split::steps [x]' '2,000 ( 9.0%)  ???:clampfern_plan [x]' '9,000 (90.0%)  memset.S:memset [x]' >annotated
     printf 'texts 54\nplans 9\n' >named
     printf 'texts 121300\nplans 9\n' >small
     printf 'texts 200000\nplans 9\n' >gen
@@ -65,13 +69,25 @@ cat >"$room/bin/nm" <<'END'
 #!/bin/sh
 cat said/symbols
 END
+cat >"$room/bin/objdump" <<'END'
+#!/bin/sh
+cat said/code
+END
+cat >"$room/bin/valgrind" <<'END'
+#!/bin/sh
+cat said/counted
+END
+cat >"$room/bin/callgrind_annotate" <<'END'
+#!/bin/sh
+cat said/annotated
+END
 cat >"$room/whole/second/target/release/second" <<'END'
 #!/bin/sh
 [ "$1" != compare ] || { cat >&2 && cat "said/$2"; }
 END
 chmod +x "$room"/bin/* "$room/whole/second/target/release/second"
 for name in cc c++ x86_64-linux-gnu-gcc x86_64-linux-gnu-g++; do [ -e "$room/bin/$name" ] || cp "$room/bin/cc" "$room/bin/$name"; done
-cp "$room/bin/nm" "$room/bin/x86_64-linux-gnu-nm"
+for name in nm objdump; do cp "$room/bin/$name" "$room/bin/x86_64-linux-gnu-$name"; done
 
 # The gate is tried with tests that do nothing much.
 simple_tests() {
@@ -156,6 +172,25 @@ fails '> two jobs' 'echo exit 0 >said/example'
 fails '' ': >tests/c/example.stdout'
 fails 'U malloc' 'echo malloc U >>said/symbols'
 fails 'T more' 'echo more T 0 1 >>said/symbols'
+
+# ---- the stack: a push, 16 bytes, two return addresses and 24 bytes below the pointer
+passes tests/stack.sh 'clampfern_plan 64 bytes, planner::plan 40 bytes'
+fails 'clampfern_plan needs 4144 bytes of stack' 'sed -i s/0x10,/0x1000,/ said/code'
+fails 'clampfern_plan needs 4128 bytes of stack' 'sed -i "s/mov .*/sub    \$0xff8,%rsp/" said/code'
+fails 'planner::plan needs 4136 bytes of stack' 'sed -i s/0xa00,/0x1a00,/ said/code'
+fails 'there is no function clampfern_plan' 'sed -i s/clampfern_plan/more/ said/code'
+fails 'there is no function facts::plan_over_marks' 'sed -i s/plan_over_marks/more/ said/code'
+fails 'split::steps calls itself' 'sed -i "s/ret/call   10 <split::steps>/" said/code'
+fails 'split::steps has call   *%rax' 'sed -i "s/mov .*/call   *%rax/" said/code'
+fails 'split::steps has sub    %rax,%rsp' 'sed -i "s/mov .*/sub    %rax,%rsp/" said/code'
+fails "the header promises '8192' bytes" 'sed -i s/4096/8192/ include/clampfern.h'
+
+# ---- the counts
+passes tests/counts.sh 'instructions of a call: 0 201, 8 201, 64 201, worst 201, refused 201'
+fails 'instructions, where it took' 'sed -i s/2,000/999,999,000/ said/annotated'
+fails '0: nothing was counted' ': >said/annotated'
+fails '0: nothing was counted' ': >said/counted'
+fails 'no count: ' 'printf "set -u -o pipefail\n" >tools/counts'
 
 # ---- the comparison
 passes tests/compare.sh 'texts 321354, plans 27'

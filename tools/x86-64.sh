@@ -9,9 +9,9 @@ emulator=$toolchain/bin/qemu-x86_64
 [ -x "$emulator" ] || emulator=
 loader=($emulator "$toolchain/lib/ld-linux-x86-64.so.2" --library-path "$toolchain/lib")
 if [ "$machine" = x86_64 ]; then
-    cc=cc cxx=c++ nm=nm compilers=(gcc g++ libc6-dev)
+    cc=cc cxx=c++ nm=nm objdump=objdump compilers=(gcc g++ libc6-dev)
 else
-    cc=x86_64-linux-gnu-gcc cxx=x86_64-linux-gnu-g++ nm=x86_64-linux-gnu-nm compilers=(gcc-x86-64-linux-gnu g++-x86-64-linux-gnu libc6-dev-amd64-cross)
+    cc=x86_64-linux-gnu-gcc cxx=x86_64-linux-gnu-g++ nm=x86_64-linux-gnu-nm objdump=x86_64-linux-gnu-objdump compilers=(gcc-x86-64-linux-gnu g++-x86-64-linux-gnu libc6-dev-amd64-cross)
 fi
 
 # quietly COMMAND..: shows what a command prints only where it fails.

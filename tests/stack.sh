@@ -1,0 +1,29 @@
+#!/usr/bin/env bash
+# The stack that a call needs at its deepest, read off the code as it is built (tools/stack): of the C entry in the example in C, and of the lent planning call in
+# the program `facts`. There the compiler takes the call into its one caller, which also owns the tables that it lends and as many marks: these are taken
+# off. Neither call needs more than is promised; the C header promises the same.
+set -u -o pipefail
+cd "$(dirname "$0")/.." || exit 2
+. tools/x86-64.sh
+most=4096
+bad=0
+report=
+c_program example || exit
+
+# within NAME FILE FUNCTION LESS: what the function needs, less bytes that are not the call's.
+within() {
+    local size
+    size=$(tools/stack "$2" "$3") || { bad=1 && return; }
+    size=$((size - $4))
+    report+="${report:+, }$1 $size bytes"
+    [ "$size" -le "$most" ] || { echo "$1 needs $size bytes of stack, and $most are promised" && bad=1; }
+}
+
+# 64 shares and 94 slices of 8 bytes each, twice
+tables=$((2 * (64 * 8 + 94 * 8)))
+within clampfern_plan target/c/example clampfern_plan 0
+within planner::plan target/bin/facts facts::plan_over_marks "$tables"
+promised=$(sed -nE 's/^#define CLAMPFERN_STACK_MOST ([0-9]+)$/\1/p' include/clampfern.h)
+[ "$promised" = "$most" ] || { echo "the header promises '$promised' bytes of stack, and not $most" && bad=1; }
+[ "$bad" != 0 ] || echo "$report"
+exit $bad
