@@ -1,5 +1,5 @@
 #!/usr/bin/env bash
-# The gate and its tests cannot be hollowed out. Each is run on a small stand-in of the repository, in which `rt`, `cargo`, the C compiler and the second
+# The gate and its tests cannot be hollowed out. Each is run on a small stand-in of the repository, in which `rt`, `cargo`, the C compiler and the independent
 # planner say what the files of said/ have: it passes there, and fails, saying why, once something is taken away or made wrong.
 set -u -o pipefail
 cd "$(dirname "$0")/.." || exit 2
@@ -10,9 +10,9 @@ tries=0
 unset SEED COUNT
 
 # ---- the stand-in, and the programs that stand in
-mkdir -p "$room/whole/said" "$room/whole/second/target/release" "$room/bin"
+mkdir -p "$room/whole/said" "$room/whole/independent/target/release" "$room/bin"
 cp -R .ci include tests tools "$room/whole"
-cp -R second/tests "$room/whole/second"
+cp -R independent/tests "$room/whole/independent"
 eval "$(grep '^tests=(' .ci/run)"
 libraries=(model text clampfern)
 (
@@ -33,7 +33,7 @@ libraries=(model text clampfern)
         printf 'rt: must-fail %s/one: refused, as it must be (first at src/lib.rt:1:1; 1 s)\n' "${libraries[@]}"
         printf "rt: plan ran as nobody, and wrote what its file 'stdout' has (0 s)\n7 passed, 0 failed\n"
     } >ci
-    for file in ../second/tests/*.rs; do
+    for file in ../independent/tests/*.rs; do
         printf '     Running tests/%s (target/release/deps/x)\nrunning 100 tests\n' "$(basename "$file")"
         echo 'test result: ok. 100 passed; 0 failed; 0 ignored; 0 measured; 0 filtered out; finished in 0.00s'
     done >cargo
@@ -81,11 +81,11 @@ cat >"$room/bin/callgrind_annotate" <<'END'
 #!/bin/sh
 cat said/annotated
 END
-cat >"$room/whole/second/target/release/second" <<'END'
+cat >"$room/whole/independent/target/release/independent" <<'END'
 #!/bin/sh
 [ "$1" != compare ] || { cat >&2 && cat "said/$2"; }
 END
-chmod +x "$room"/bin/* "$room/whole/second/target/release/second"
+chmod +x "$room"/bin/* "$room/whole/independent/target/release/independent"
 for name in cc c++ x86_64-linux-gnu-gcc x86_64-linux-gnu-g++; do [ -e "$room/bin/$name" ] || cp "$room/bin/cc" "$room/bin/$name"; done
 for name in nm objdump; do cp "$room/bin/$name" "$room/bin/x86_64-linux-gnu-$name"; done
 
@@ -155,14 +155,14 @@ fails 'FAILED: tests/plan.sh' 'echo "false | true" >>tests/plan.sh'
 fails "tests/plan.sh has no line 'set -u -o pipefail'" 'echo echo done >tests/plan.sh'
 fails "tools/compare has no line 'set -u -o pipefail'" 'sed -i "s/^set .*/set -u/" tools/compare'
 
-# ---- the second planner's tests
-passes tests/second.sh "$(find second/tests -name '*.rs' | wc -l)00 tests"
+# ---- the independent planner's tests
+passes tests/independent.sh "$(find independent/tests -name '*.rs' | wc -l)00 tests"
 fails 'tests/scope.rs: no test ran' 'sed -i "/scope/,/result/s/100 passed/0 passed/" said/cargo'
 fails '0 ignored; 0 measured; 100 filtered out' 'sed -i "s/100 passed/0 passed/; s/0 filtered/100 filtered/" said/cargo'
 fails '1 ignored' 'sed -i "/scope/,/result/s/0 ignored/1 ignored/" said/cargo'
 fails 'tests ran, fewer than' 'sed -i "s/100 passed/1 passed/" said/cargo'
 fails 'tests ran, fewer than' ': >said/cargo'
-fails 'tests/more.rs: no test ran' 'touch second/tests/more.rs'
+fails 'tests/more.rs: no test ran' 'touch independent/tests/more.rs'
 
 # ---- the example
 passes tests/example.sh ''

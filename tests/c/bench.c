@@ -1,10 +1,10 @@
 /* Times planners, text in to text out: `bench FILE..`, each file a group of texts in frames (a length of four bytes, high byte first, then so many
  * bytes). Planners take turns on each text, and the fastest of several turns counts. Prints for each group the mean over its texts, and the
- * text that takes ours the longest; then the peak stack of the call over all texts. With SECOND defined it links the second planner too,
+ * text that takes ours the longest; then the peak stack of the call over all texts. With INDEPENDENT defined it links the independent planner too,
  * checks that the answers are the same, and prints ratios.
  *
  * `bench --only PLANNER TIMES FILE` plans each tenth text of a file so many times and says how many texts these are, for who counts the instructions
- * (planner 0 is ours, 1 the second). */
+ * (planner 0 is ours, 1 the independent one). */
 #define _DEFAULT_SOURCE
 #include "clampfern.h"
 #include <libgen.h>
@@ -15,9 +15,9 @@
 #include <ucontext.h>
 
 typedef size_t planner(const uint8_t *text, size_t text_len, uint8_t *out, size_t out_len);
-#ifdef SECOND
-planner second_plan;
-static planner *const planners[] = {clampfern_plan, second_plan};
+#ifdef INDEPENDENT
+planner independent_plan;
+static planner *const planners[] = {clampfern_plan, independent_plan};
 #else
 static planner *const planners[] = {clampfern_plan};
 #endif
@@ -178,7 +178,7 @@ int main(int argc, char **argv)
         return 0;
     }
     size_t peak[PLANNERS] = {0};
-    printf("%-8s %-12s %13s%s\n", "group", "time", "ours", PLANNERS == 2 ? "        second    ratio" : "");
+    printf("%-8s %-12s %13s%s\n", "group", "time", "ours", PLANNERS == 2 ? "   independent    ratio" : "");
     for (int group = 1; group < argc; group++)
         time_group(basename(argv[group]), opened(argv[group]), peak);
     printf("%-8s %-12s %7zu bytes", "all", "peak stack", peak[0]);

@@ -1,8 +1,8 @@
 -- `sets::put_shares` meets its contract: the rows are counted up to 64. Assumes nothing.
 use Prim.Native.Nat.{_≤_, _-_}
 use borrow.Author.Needs.{needs}
-use Rattle.sets.proofs.put_shares.Statement.{statement}
-use Rattle.sets.proofs.put_shares.Tie as tie
+use Rattle.worked_sets.proofs.put_shares.Statement.{statement}
+use Rattle.worked_sets.proofs.put_shares.Tie as tie
 
 abbrev Inv-loop : tie.InvT-loop
 Inv-loop n first second i₀ i = i ≤ 64

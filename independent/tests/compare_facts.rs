@@ -3,13 +3,13 @@
 
 use std::process::{Command, Output};
 
-use second::command;
-use second::compare_facts::Task;
-use second::family::Family;
+use independent::command;
+use independent::compare_facts::Task;
+use independent::family::Family;
 
 const SECOND: &str = env!("CARGO_BIN_EXE_second");
 
-/// Runs `second compare-facts` with the words of a line, then with a command.
+/// Runs `independent compare-facts` with the words of a line, then with a command.
 fn compare(line: &str, command: &[&str]) -> Output {
     Command::new(SECOND)
         .arg("compare-facts")
@@ -51,7 +51,7 @@ fn a_wrong_answer_is_told() {
     assert_eq!(
         fails("named", &["cat"]),
         "text, 11 bytes:\n01000a0101\n\n\
-         answer of the second planner, 14 bytes:\nbalance 10 10\n\n\
+         answer of the independent planner, 14 bytes:\nbalance 10 10\n\n\
          answer of the other planner, 11 bytes:\n01000a0101\n\n\
          named, index 0: the answers differ\n"
     );

@@ -1,18 +1,18 @@
 //! The program. A planner that is compared with this one reads the texts of a
 //! family in frames and writes its answers in frames:
-//! `second FAMILY | other | second compare FAMILY`. Facts are compared with
+//! `independent FAMILY | other | independent compare FAMILY`. Facts are compared with
 //! those of a command that is run on each text by itself:
-//! `second compare-facts FAMILY -- other`.
+//! `independent compare-facts FAMILY -- other`.
 
 use std::io::{self, BufReader, BufWriter, Read, Write};
 use std::process::ExitCode;
 
-use second::compare_facts::Task;
-use second::family::Family;
-use second::{bench, command, compare, facts, frames, text};
+use independent::compare_facts::Task;
+use independent::family::Family;
+use independent::{bench, command, compare, facts, frames, text};
 
-const USAGE: &str = "usage: second plan | facts | answers | FAMILY | compare FAMILY | bench GROUP
-       second compare-facts [--every N] FAMILY -- COMMAND [ARGUMENT]...
+const USAGE: &str = "usage: independent plan | facts | answers | FAMILY | compare FAMILY | bench GROUP
+       independent compare-facts [--every N] FAMILY -- COMMAND [ARGUMENT]...
 FAMILY: named | small | gen SEED COUNT [FROM]
 GROUP: a number of jobs | worst | refused";
 
@@ -22,7 +22,7 @@ fn main() -> ExitCode {
         Err(error) => {
             // Who reads the output may end first, and then has said why.
             if error.kind() != io::ErrorKind::BrokenPipe {
-                eprintln!("second: {error}");
+                eprintln!("independent: {error}");
             }
             ExitCode::FAILURE
         }

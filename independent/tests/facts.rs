@@ -1,7 +1,7 @@
 //! The facts of the sets that the rules name, worked out by hand, and of texts
 //! that are refused.
 
-use second::facts::facts_text;
+use independent::facts::facts_text;
 
 const BOARD: &str = "01000a0101\n";
 const JOB: &str = "02000000000100000001\n";

@@ -1,11 +1,11 @@
 //! The checker must object to plans that are wrong in one place, and the
 //! generator must reach every answer.
 
-use second::check::check_plan;
-use second::compare;
-use second::family::Family;
-use second::gen;
-use second::text::plan_text;
+use independent::check::check_plan;
+use independent::compare;
+use independent::family::Family;
+use independent::gen;
+use independent::text::plan_text;
 
 const INPUT: &[u8] = b"01000a0101\n02000000000600000009\n02000000000600000008\n";
 const OUTPUT: &str = "100203\n110000060000\n110100040003\n\

@@ -57,7 +57,7 @@ impl fmt::Display for Failure {
     fn fmt(&self, f: &mut fmt::Formatter) -> fmt::Result {
         for (title, bytes) in [
             ("text", &self.input),
-            ("answer of the second planner", &self.ours),
+            ("answer of the independent planner", &self.ours),
             ("answer of the other planner", &self.other),
         ] {
             let shown = bytes.escape_ascii().to_string().replace("\\n", "\n");

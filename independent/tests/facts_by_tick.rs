@@ -1,11 +1,11 @@
 //! The facts of many texts, found again by the checker's reader and by walking
 //! through the window of a plan tick by tick.
 
-use second::check::Set;
-use second::duality::Demand;
-use second::facts::facts_text;
-use second::family::Family;
-use second::text::plan_text;
+use independent::check::Set;
+use independent::duality::Demand;
+use independent::facts::facts_text;
+use independent::family::Family;
+use independent::text::plan_text;
 
 /// The kind and the core that a job is on.
 type Place = (usize, usize);

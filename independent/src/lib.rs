@@ -1,4 +1,4 @@
-//! A second planner for boards with two kinds of core, with its own text
+//! An independent planner for boards with two kinds of core, with its own text
 //! format, checker and generator of inputs. It exists to be compared, byte by
 //! byte, with another implementation of the same rules.
 

@@ -1,6 +1,6 @@
 //! Each way in which a text can be refused, and the order of refusals.
 
-use second::text::plan_text;
+use independent::text::plan_text;
 
 const BOARD: &str = "01000a0101\n";
 const JOB: &str = "02000000000100000001\n";

@@ -1,11 +1,11 @@
 //! The sets and texts that the rules name, with the results they name.
 
-use second::check::{check_plan, feasible};
-use second::planner::{
+use independent::check::{check_plan, feasible};
+use independent::planner::{
     moves, plan, plan_into, split, starting_balance, Allowed, Board, Job, Kind, Moves, PerKind,
     Reason, Refusal, Slice,
 };
-use second::text::plan_text;
+use independent::text::plan_text;
 
 fn board(window: i64, first: i64, second: i64) -> Board {
     Board {

@@ -9,7 +9,7 @@ use crate::text;
 /// Each pointer points at as many bytes as its length says, and the two do not
 /// overlap.
 #[no_mangle]
-pub unsafe extern "C" fn second_plan(
+pub unsafe extern "C" fn independent_plan(
     text: *const u8,
     text_len: usize,
     out: *mut u8,
