@@ -21,7 +21,7 @@ use Rattle.text.specs.declared.Written.the-variants.{Bytes}
 use Rattle.planner.specs.Plan.{Plan}
 use Rattle.planner.proofs.Causes.{plan-listed}
 use Rattle.planner.proofs.Demands.{listed-small}
-use Rattle.planner.proofs.Moving.{plan-roomy}
+use Rattle.planner.proofs.PlanMoves.{plan-roomy}
 use Rattle.clampfern.specs.Answer.{planned, linesFor, answerText, Entered}
 use Rattle.clampfern.specs.Listed.{TextListed, over, digits, unknown, job-first, board-later, empty, many, of-set}
 use Rattle.clampfern.specs.Said.{saidOf}

@@ -19,7 +19,7 @@ use Rattle.model.specs.declared.Job.{Job}
 use Rattle.model.specs.declared.Share.{Share}
 use Rattle.model.specs.declared.Slice.{Slice}
 use Rattle.model.proofs.Lists.{all-map}
-use Rattle.model.proofs.Splits.{do-length}
+use Rattle.model.proofs.Splits.{all-done-length}
 use Rattle.legal.specs.Lawful.{Lawful}
 use Rattle.planner.specs.Plan.{Plan, planOf}
 use Rattle.planner.proofs.Plans.{plan-shares, plan-kept, shares-lawful, shares-accepted, accepted-fits}
@@ -37,7 +37,7 @@ module _ (board : Board) (js : List Job) (m k : ℕ) {p : Plan} (is : planOf boa
       let law = shares-lawful board (length js) js (made .0) in
       let kept = plan-kept board (length js) js m k is in
       let fits = accepted-fits board (length js) js (p .shares) law (shares-accepted board (length js) js (made .0)) in
-      let size = do-length (board .window) 1 js (p .shares) (kept .whole .does) in
+      let size = all-done-length (board .window) 1 js (p .shares) (kept .whole .done) in
       record {
         few-jobs = omega (arith, law .few);
         few-slices = omega (arith, kept .few, law .few, law .first-most, law .second-most);

@@ -3,7 +3,7 @@
 -- hold `before`; it answers `count`, and the bytes then hold `after`. The first part says which of them are the answer. The demands are then
 -- stated of bytes that are the answer to a text, so that they hold of every call that gives such bytes, as `plan_text` and `answer`.
 -- What bytes say is `saidOf` (specs/Said.antt), a reader by the rules of the format: what is neither a plan nor a refusal says nothing.
--- The other words are those of the model, as on the planner's page: Does (one job's work), Runs (a tick of a slice), SameCore, ticksIn, Split.
+-- The other words are those of the model, as on the planner's page: DoneBy (one job's work), Runs (a tick of a slice), SameCore, ticksIn, Split.
 -- Assumes nothing.
 use mathlib.Core.List.{List}
 use mathlib.Core.Logic.{_↔_, ⊎-elim}
@@ -16,7 +16,7 @@ use Rattle.model.specs.Board.{roomOf}
 use Rattle.model.specs.Limits.{jobsMost, slicesMost}
 use Rattle.model.specs.Movers.{movers, unevens}
 use Rattle.model.specs.Refusal.{Answer, given, refused, andThen}
-use Rattle.model.specs.Split.{share, ticksOn, Does, Split}
+use Rattle.model.specs.Split.{share, ticksOn, DoneBy, Split}
 use Rattle.model.specs.Timetable.{Runs, SameCore, Inside, ticksIn}
 use Rattle.model.specs.declared.Kind.{Kind}
 use Rattle.model.specs.declared.Kind.the-variants.{First, Second}
@@ -25,7 +25,7 @@ use Rattle.model.specs.declared.Job.{Job}
 use Rattle.model.specs.declared.Share.{Share}
 use Rattle.model.specs.declared.Slice.{Slice}
 use Rattle.model.proofs.Lists.{all-at, pairs-at}
-use Rattle.model.proofs.Splits.{do-length, do-at}
+use Rattle.model.proofs.Splits.{all-done-length, all-done-at}
 use Rattle.legal.specs.Legal.{legalOf}
 use Rattle.slices.specs.Table.{tableOf}
 use Rattle.split.specs.Promise.{stretchedOn}
@@ -35,9 +35,9 @@ use Rattle.text.specs.Hex.{Maybe, none, some}
 use Rattle.text.specs.Input.{Input, inputOf}
 use Rattle.text.specs.Output.{answerMost, Writes}
 use Rattle.text.specs.declared.Written.the-variants.{Bytes}
-use Rattle.planner.specs.Place.{noSlice}
+use Rattle.planner.specs.Packing.{noSlice}
 use Rattle.planner.specs.Plan.{Plan, countsIn}
-use Rattle.planner.specs.Promise.{noJob, Kept}
+use Rattle.planner.specs.Promise.{noJob, GoodPlan}
 use Rattle.planner.proofs.Lent.{plan-room}
 use Rattle.planner.proofs.Plans.{plan-shares, plan-kept}
 use Rattle.clampfern.specs.Answer.{planned, answerText, Entered, Answered}
@@ -107,8 +107,8 @@ module _ (asked : List ℕ) {bytes : List ℕ} (answer : bytes ≡ answerText as
         input .board,
         input .jobs,
         set,
-        do-length (input .board .window) 1 (input .jobs) (p .shares)
-            (plan-kept (input .board) (length (input .jobs)) (input .jobs) jobsMost slicesMost is .whole .does),
+        all-done-length (input .board .window) 1 (input .jobs) (p .shares)
+            (plan-kept (input .board) (length (input .jobs)) (input .jobs) jobsMost slicesMost is .whole .done),
       )
       of input set (refused number place) is = answer-listed asked number place (rw set is)
 
@@ -142,11 +142,11 @@ module _ (asked : List ℕ) {bytes : List ℕ} (answer : bytes ≡ answerText as
       pub slices-of-rules : p .slices ≡ tableOf (board .window) (p .shares)
       slices-of-rules = plan-shares board (length js) js jobsMost slicesMost (told says) .1
 
-      kept : Kept board js (p .shares) (p .slices)
+      kept : GoodPlan board js (p .shares) (p .slices)
       kept = plan-kept board (length js) js jobsMost slicesMost (told says)
 
       shares-all : length (p .shares) ≡ length js
-      shares-all = do-length (board .window) 1 js (p .shares) (kept .whole .does)
+      shares-all = all-done-length (board .window) 1 js (p .shares) (kept .whole .done)
 
       -- Row i of the slices, and the share of job j.
       abbrev row : ℕ → Slice
@@ -156,8 +156,8 @@ module _ (asked : List ℕ) {bytes : List ℕ} (answer : bytes ≡ answerText as
       shareOf j = getD (p .shares) j (share 0 0)
 
       -- Each job gets its whole work: its share, in whole ticks, does it,
-      pub job-whole : (j : ℕ) → j < length js → Does (board .window) 1 (getD js j noJob) (shareOf j)
-      job-whole j l = do-at (board .window) 1 noJob (share 0 0) js (p .shares) j l (kept .whole .does)
+      pub job-whole : (j : ℕ) → j < length js → DoneBy (board .window) 1 (getD js j noJob) (shareOf j)
+      job-whole j l = all-done-at (board .window) 1 noJob (share 0 0) js (p .shares) j l (kept .whole .done)
 
       -- the lengths of its slices on each kind add up to the share,
       pub job-served : (kind : Kind) (j : ℕ) → j < length js → ticksIn kind j (p .slices) ≡ ticksOn kind (shareOf j)

@@ -25,8 +25,8 @@ use Rattle.split.specs.Shares.{sharesOf}
 use Rattle.split.proofs.Seen.{shares-seen}
 use Rattle.text.specs.Input.{Input, Head, inputOf, inColumns, Gives, Reads}
 use Rattle.text.specs.Output.{planText, refusedText, refusalText, Writes}
-use Rattle.text.specs.declared.Outcome.{Outcome}
-use Rattle.text.specs.declared.Outcome.the-variants.{Set, Refused as Unread}
+use Rattle.text.specs.declared.Reading.{Reading}
+use Rattle.text.specs.declared.Reading.the-variants.{Set, Refused as Unread}
 use Rattle.text.specs.declared.Written.{Written}
 use Rattle.planner.specs.Plan.{Plan, Counts, fitted, planOf, columnsOf, sharesIn, slicesIn, countsIn, saysPlanned, front}
 use Rattle.planner.specs.Promise.{Columned}
@@ -109,7 +109,7 @@ drop-replicate (suc n) (suc m) x = simp unary-clauses (drop-replicate n m x)
 abbrev zeros : List ℕ
 zeros = replicate jobsMost 0
 
-module _ (text : List ℕ) {c1 c2 : List ℕ} {r : Outcome} (reads : Reads text zeros zeros r c1 c2) where
+module _ (text : List ℕ) {c1 c2 : List ℕ} {r : Reading} (reads : Reads text zeros zeros r c1 c2) where
   pub read-planned : (board : Board) (n : ℕ) → r ≡ Set board n → linesFor (planOf board n (jobsIn n c1 c2) jobsMost slicesMost) ≡ answerText text
   read-planned board n is = go (inputOf text) reads
     where

@@ -9,7 +9,7 @@ use native.Mathlib.Omega.{arith}
 use lib.ListN.{length, replicate}
 use Rattle.model.specs.Limits.{jobsMost, slicesMost}
 use Rattle.model.specs.Refusal.{Answer, given, refused, andThen}
-use Rattle.model.proofs.Splits.{do-length}
+use Rattle.model.proofs.Splits.{all-done-length}
 use Rattle.text.specs.Hex.{linesOf, nibbleOf, pairsOf, bytesOf, digitsOf, textOf, numberFrom}
 use Rattle.text.specs.Input.{Input, jobIn, entryOf, jobsFrom, inputFrom, inputOf}
 use Rattle.text.specs.Output.{answerMost}
@@ -56,7 +56,7 @@ pub most-answered : length (answerText asked) ≡ answerMost
 most-answered = rw asked-read (go (planOf board jobsMost jobs jobsMost slicesMost) refl most-slices) where
   go : (x : Answer Plan) → planOf board jobsMost jobs jobsMost slicesMost ≡ x → length (slicesIn x) ≡ slicesMost → length (linesFor x) ≡ answerMost
   go (given p) is most =
-      plan-length (p .shares) (p .slices) jobsMost slicesMost (do-length (board .window) 1 jobs (p .shares) (plan-kept board jobsMost jobs jobsMost slicesMost is .whole .does)) most
+      plan-length (p .shares) (p .slices) jobsMost slicesMost (all-done-length (board .window) 1 jobs (p .shares) (plan-kept board jobsMost jobs jobsMost slicesMost is .whole .done)) most
   go (refused number place) is most = absurd (omega arith)
 
 pub least-answered : length (answerText []) ≡ 7

@@ -10,7 +10,7 @@ use model::JOBS_MOST;
 use model::SLICES_MOST;
 use planner::Planned;
 use text::ANSWER_MOST;
-use text::Outcome;
+use text::Reading;
 use text::Written;
 
 // The answer to a text by value: its lines, and how many bytes they have. All other bytes are zero.
@@ -56,8 +56,8 @@ pub fn plan_text(text: &[u8], out: &mut [u8]) -> Written
     let mut first = [0u32; JOBS_MOST];
     let mut second = [0u32; JOBS_MOST];
     match text::read(text, &mut first, &mut second) {
-        Outcome::Refused(refusal) => text::write_refusal(refusal, out),
-        Outcome::Set(board, n) => answer_in(board, &first, &second, n, out),
+        Reading::Refused(refusal) => text::write_refusal(refusal, out),
+        Reading::Set(board, n) => answer_in(board, &first, &second, n, out),
     }
 }
 
@@ -68,7 +68,7 @@ pub extern "C" fn clampfern_plan(text: &[u8], out: &mut [u8]) -> usize
 {
     match plan_text(text, out) {
         Written::Bytes(count) => count,
-        Written::Full(_) => 0,
+        Written::Refused(_) => 0,
     }
 }
 

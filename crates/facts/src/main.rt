@@ -14,13 +14,13 @@ use model::SLICES_MOST;
 use model::SecondTicks;
 use model::Share;
 use model::Slice;
-use planner::Moved;
+use planner::PlannedMoves;
 use planner::Planned;
 use slices::Moves;
 use split::Balanced;
 use streams::Got;
 use streams::INPUT_MOST;
-use text::Outcome;
+use text::Reading;
 
 // What was planned into columns, and the rows that these then hold.
 struct Columns {
@@ -74,7 +74,7 @@ fn put_balance(balanced: Balanced) {
             put_signed(b.second);
             put(b"\n");
         }
-        Balanced::Unbalanced(_) => {}
+        Balanced::Refused(_) => {}
     }
 }
 
@@ -358,7 +358,7 @@ fn is_too_short(
         &mut shares2[..m2],
         &mut packed[..k],
     );
-    same_planned(planned, Planned::Refused(Refusal::Space))
+    same_planned(planned, Planned::Refused(Refusal::TooShort))
         && are_tick_marks(shares1)
         && are_tick_marks(shares2)
         && are_packed_marks(packed)
@@ -409,13 +409,13 @@ fn is_right_at_the_edge(
     }
     if shared > 0 {
         let short = plan_over_marks(board, jobs, n, shared - 1, sliced);
-        if !is_answered(short, Planned::Refused(Refusal::Space), t) {
+        if !is_answered(short, Planned::Refused(Refusal::TooShort), t) {
             return false;
         }
     }
     if sliced > 0 {
         let short = plan_over_marks(board, jobs, n, shared, sliced - 1);
-        if !is_answered(short, Planned::Refused(Refusal::Space), t) {
+        if !is_answered(short, Planned::Refused(Refusal::TooShort), t) {
             return false;
         }
     }
@@ -424,7 +424,7 @@ fn is_right_at_the_edge(
 
 // Whether the lent call into long tables answered as `moves` and the call over columns did, and left the rows of the columns; and where there is a plan, whether the moves
 // are those of the rows that were written, the call is right at the edge, and the call over columns refuses short ones.
-fn is_right(board: Board, jobs: [Job; JOBS_MOST], n: usize, lent: Lent, moved: Moved) -> bool
+fn is_right(board: Board, jobs: [Job; JOBS_MOST], n: usize, lent: Lent, moved: PlannedMoves) -> bool
     requires { ⌜ n ≤ jobsMost ⌝ }
 {
     let t = plan_in_columns(board, jobs, n);
@@ -479,8 +479,8 @@ fn show_text(text: &[u8]) {
     let mut first = [0u32; JOBS_MOST];
     let mut second = [0u32; JOBS_MOST];
     match text::read(text, &mut first, &mut second) {
-        Outcome::Refused(refusal) => put_refused(refusal),
-        Outcome::Set(board, n) => {
+        Reading::Refused(refusal) => put_refused(refusal),
+        Reading::Set(board, n) => {
             let jobs = jobs_of(first, second);
             show(board, jobs, n);
         }

@@ -111,7 +111,7 @@ pub fn check(board: Board, first: &[u32; JOBS_MOST], second: &[u32; JOBS_MOST], 
         return Checked::Refused(Refusal::Cores);
     }
     if JOBS_MOST < n {
-        return Checked::Refused(Refusal::Jobs);
+        return Checked::Refused(Refusal::TooManyJobs);
     }
     let bad = lowest_failing(Test::Cost, w, first, second, n);
     if bad < n {
@@ -119,7 +119,7 @@ pub fn check(board: Board, first: &[u32; JOBS_MOST], second: &[u32; JOBS_MOST], 
     }
     let long = lowest_failing(Test::Long, w, first, second, n);
     if long < n {
-        return Checked::Refused(Refusal::Long(long as u8));
+        return Checked::Refused(Refusal::TooLong(long as u8));
     }
     Checked::Legal
 }

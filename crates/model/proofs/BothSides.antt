@@ -5,8 +5,8 @@
 --   Limits                the numbers of document 01            coresOf, roomOf    each kind by its own count
 --   Inside                some, ends, core, job                 Runs, Apart        the first tick, the last, and the one behind it
 --   SameCore              the kind and the number               Timetable          served, inside, cores, jobs; the first job and the last
---   Does                  work, window, the other kind; in whole ticks and in fifths
---   Do                    a share for each job                  Whole, Split       rooms exactly full, some, what fractions add
+--   DoneBy                  work, window, the other kind; in whole ticks and in fifths
+--   AllDone                    a share for each job                  WholeSplit, Split       rooms exactly full, some, what fractions add
 --   isMover, isEven, movers, unevens
 --   costs, jobsIn, seen   each way to be a job, and what is written as 0 and 0    packOf, sliceIn    each byte at its limit
 -- Assumes nothing.
@@ -21,7 +21,7 @@ use Rattle.model.specs.Board.{coresOf, roomOf}
 use Rattle.model.specs.Columns.{jobAt, jobsIn, costOn, seen, first, second, both}
 use Rattle.model.specs.Packed.{packOf, sliceIn}
 use Rattle.model.specs.Movers.{isMover, isEven, movers, unevens}
-use Rattle.model.specs.Split.{share, ticksOn, Does, Do, ticksOf, Split, Whole}
+use Rattle.model.specs.Split.{share, ticksOn, DoneBy, AllDone, ticksOf, Split, WholeSplit}
 use Rattle.model.specs.Timetable.{Runs, Apart, SameCore, Inside, ticksIn, Timetable}
 use Rattle.model.specs.declared.Kind.{Kind}
 use Rattle.model.specs.declared.Kind.the-variants.{First, Second}
@@ -204,113 +204,113 @@ table-full =
           refl refl refl refl kind job (omega arith);
     }
 
--- ==== Does: in whole ticks, and in fifths. B(2,3) has 6 parts of work, of which a tick on the first kind does 3, on the second 2.
-pub both-enough : Does 10 1 (B 2 3) (share 2 0) × Does 10 1 (B 2 3) (share 0 3) × Does 10 1 (B 2 3) (share 1 2)
+-- ==== DoneBy: in whole ticks, and in fifths. B(2,3) has 6 parts of work, of which a tick on the first kind does 3, on the second 2.
+pub both-enough : DoneBy 10 1 (B 2 3) (share 2 0) × DoneBy 10 1 (B 2 3) (share 0 3) × DoneBy 10 1 (B 2 3) (share 1 2)
 both-enough = omega arith
 
-pub both-short-not : Does 10 1 (B 2 3) (share 1 1) → ⊥
+pub both-short-not : DoneBy 10 1 (B 2 3) (share 1 1) → ⊥
 both-short-not d = omega arith
 
-pub both-window : Does 10 1 (B 2 3) (share 4 6)
+pub both-window : DoneBy 10 1 (B 2 3) (share 4 6)
 both-window = omega arith
 
-pub both-long-not : Does 10 1 (B 2 3) (share 4 7) → ⊥
+pub both-long-not : DoneBy 10 1 (B 2 3) (share 4 7) → ⊥
 both-long-not d = omega arith
 
-pub both-fifths : Does 10 5 (B 2 3) (share 4 9) × Does 10 5 (B 6 16) (share 18 32)
+pub both-fifths : DoneBy 10 5 (B 2 3) (share 4 9) × DoneBy 10 5 (B 6 16) (share 18 32)
 both-fifths = omega arith
 
-pub both-fifths-short-not : Does 10 5 (B 2 3) (share 5 7) → ⊥
+pub both-fifths-short-not : DoneBy 10 5 (B 2 3) (share 5 7) → ⊥
 both-fifths-short-not d = omega arith
 
-pub both-fifths-long-not : Does 10 5 (B 6 16) (share 19 32) → ⊥
+pub both-fifths-long-not : DoneBy 10 5 (B 6 16) (share 19 32) → ⊥
 both-fifths-long-not d = omega arith
 
 -- A job on one kind.
-pub first-enough : Does 10 1 (F 7) (share 7 0)
+pub first-enough : DoneBy 10 1 (F 7) (share 7 0)
 first-enough = omega arith
 
-pub first-short-not : Does 10 1 (F 7) (share 6 0) → ⊥
+pub first-short-not : DoneBy 10 1 (F 7) (share 6 0) → ⊥
 first-short-not d = omega arith
 
-pub first-window : Does 10 1 (F 7) (share 10 0)
+pub first-window : DoneBy 10 1 (F 7) (share 10 0)
 first-window = omega arith
 
-pub first-long-not : Does 10 1 (F 7) (share 11 0) → ⊥
+pub first-long-not : DoneBy 10 1 (F 7) (share 11 0) → ⊥
 first-long-not d = omega arith
 
-pub first-on-second-not : Does 10 1 (F 7) (share 7 1) → ⊥
+pub first-on-second-not : DoneBy 10 1 (F 7) (share 7 1) → ⊥
 first-on-second-not d = omega arith
 
-pub first-fifths : Does 10 5 (F 7) (share 35 0) × Does 10 5 (F 7) (share 50 0)
+pub first-fifths : DoneBy 10 5 (F 7) (share 35 0) × DoneBy 10 5 (F 7) (share 50 0)
 first-fifths = omega arith
 
-pub first-fifths-not : (Does 10 5 (F 7) (share 34 0) → ⊥) × (Does 10 5 (F 7) (share 51 0) → ⊥) × (Does 10 5 (F 7) (share 35 1) → ⊥)
+pub first-fifths-not : (DoneBy 10 5 (F 7) (share 34 0) → ⊥) × (DoneBy 10 5 (F 7) (share 51 0) → ⊥) × (DoneBy 10 5 (F 7) (share 35 1) → ⊥)
 first-fifths-not = (λ d. omega arith, λ d. omega arith, λ d. omega arith)
 
-pub second-enough : Does 10 1 (S 7) (share 0 7)
+pub second-enough : DoneBy 10 1 (S 7) (share 0 7)
 second-enough = omega arith
 
-pub second-short-not : Does 10 1 (S 7) (share 0 6) → ⊥
+pub second-short-not : DoneBy 10 1 (S 7) (share 0 6) → ⊥
 second-short-not d = omega arith
 
-pub second-window : Does 10 1 (S 7) (share 0 10)
+pub second-window : DoneBy 10 1 (S 7) (share 0 10)
 second-window = omega arith
 
-pub second-long-not : Does 10 1 (S 7) (share 0 11) → ⊥
+pub second-long-not : DoneBy 10 1 (S 7) (share 0 11) → ⊥
 second-long-not d = omega arith
 
-pub second-on-first-not : Does 10 1 (S 7) (share 1 7) → ⊥
+pub second-on-first-not : DoneBy 10 1 (S 7) (share 1 7) → ⊥
 second-on-first-not d = omega arith
 
-pub second-fifths : Does 10 5 (S 7) (share 0 35) × Does 10 5 (S 7) (share 0 50)
+pub second-fifths : DoneBy 10 5 (S 7) (share 0 35) × DoneBy 10 5 (S 7) (share 0 50)
 second-fifths = omega arith
 
-pub second-fifths-not : (Does 10 5 (S 7) (share 0 34) → ⊥) × (Does 10 5 (S 7) (share 0 51) → ⊥) × (Does 10 5 (S 7) (share 1 35) → ⊥)
+pub second-fifths-not : (DoneBy 10 5 (S 7) (share 0 34) → ⊥) × (DoneBy 10 5 (S 7) (share 0 51) → ⊥) × (DoneBy 10 5 (S 7) (share 1 35) → ⊥)
 second-fifths-not = (λ d. omega arith, λ d. omega arith, λ d. omega arith)
 
--- ==== Do
-pub do-each : Do 10 1 (F 7 ∷ S 7 ∷ []) (share 7 0 ∷ share 0 7 ∷ [])
-do-each = omega arith
+-- ==== AllDone
+pub done-each : AllDone 10 1 (F 7 ∷ S 7 ∷ []) (share 7 0 ∷ share 0 7 ∷ [])
+done-each = omega arith
 
-pub do-last-short-not : Do 10 1 (F 7 ∷ S 7 ∷ []) (share 7 0 ∷ share 0 6 ∷ []) → ⊥
-do-last-short-not d = omega arith
+pub done-last-short-not : AllDone 10 1 (F 7 ∷ S 7 ∷ []) (share 7 0 ∷ share 0 6 ∷ []) → ⊥
+done-last-short-not d = omega arith
 
-pub do-few-not : Do 10 1 (F 7 ∷ S 7 ∷ []) (share 7 0 ∷ []) → ⊥
-do-few-not d = omega arith
+pub done-few-not : AllDone 10 1 (F 7 ∷ S 7 ∷ []) (share 7 0 ∷ []) → ⊥
+done-few-not d = omega arith
 
-pub do-many-not : Do 10 1 (F 7 ∷ S 7 ∷ []) (share 7 0 ∷ share 0 7 ∷ share 0 0 ∷ []) → ⊥
-do-many-not d = omega arith
+pub done-many-not : AllDone 10 1 (F 7 ∷ S 7 ∷ []) (share 7 0 ∷ share 0 7 ∷ share 0 0 ∷ []) → ⊥
+done-many-not d = omega arith
 
--- ==== Whole and Split: a room that is exactly full, and one tick less
+-- ==== WholeSplit and Split: a room that is exactly full, and one tick less
 abbrev two : List Job
 two = F 10 ∷ S 10 ∷ []
 
 abbrev theirs : List Share
 theirs = share 10 0 ∷ share 0 10 ∷ []
 
-pub whole-full : Whole 10 10 10 two theirs
-whole-full = record { does = omega arith; within1 = omega arith; within2 = omega arith }
+pub whole-full : WholeSplit 10 10 10 two theirs
+whole-full = record { done = omega arith; within1 = omega arith; within2 = omega arith }
 
-pub whole-first-not : Whole 10 9 10 two theirs → ⊥
+pub whole-first-not : WholeSplit 10 9 10 two theirs → ⊥
 whole-first-not s = omega arith
 
-pub whole-second-not : Whole 10 10 9 two theirs → ⊥
+pub whole-second-not : WholeSplit 10 10 9 two theirs → ⊥
 whole-second-not s = omega arith
 
-pub whole-does-not : Whole 10 10 10 two (share 10 0 ∷ share 0 9 ∷ []) → ⊥
+pub whole-does-not : WholeSplit 10 10 10 two (share 10 0 ∷ share 0 9 ∷ []) → ⊥
 whole-does-not s = omega arith
 
 pub split-full : Split 10 10 10 two
-split-full = record { whole = 1; some = omega arith; shares = theirs; does = omega arith; within1 = omega arith; within2 = omega arith }
+split-full = record { whole = 1; some = omega arith; shares = theirs; done = omega arith; within1 = omega arith; within2 = omega arith }
 
 -- The one share of a set of one job.
 one-share : {w room1 room2 : ℕ} {j : Job} (s : Split w room1 room2 (j ∷ []))
-    → (t : Share) × Does w (s .whole) j t × (ticksOf First (s .shares) ≡ t .first .0) × (ticksOf Second (s .shares) ≡ t .second .0)
-one-share {w} {j = j} s = go (s .shares) (s .does)
+    → (t : Share) × DoneBy w (s .whole) j t × (ticksOf First (s .shares) ≡ t .first .0) × (ticksOf Second (s .shares) ≡ t .second .0)
+one-share {w} {j = j} s = go (s .shares) (s .done)
   where
-    go : (ss : List Share) → Do w (s .whole) (j ∷ []) ss
-        → (t : Share) × Does w (s .whole) j t × (ticksOf First ss ≡ t .first .0) × (ticksOf Second ss ≡ t .second .0)
+    go : (ss : List Share) → AllDone w (s .whole) (j ∷ []) ss
+        → (t : Share) × DoneBy w (s .whole) j t × (ticksOf First ss ≡ t .first .0) × (ticksOf Second ss ≡ t .second .0)
     go [] d = absurd d
     go (t ∷ []) d = (t, d .0, omega arith, omega arith)
     go (t ∷ u ∷ ss) d = absurd (d .1)
@@ -331,13 +331,13 @@ halves = B 1 3 ∷ B 1 3 ∷ []
 
 pub split-halves : Split 2 1 3 halves
 split-halves =
-    record { whole = 2; some = omega arith; shares = share 1 3 ∷ share 1 3 ∷ []; does = omega arith; within1 = omega arith; within2 = omega arith }
+    record { whole = 2; some = omega arith; shares = share 1 3 ∷ share 1 3 ∷ []; done = omega arith; within1 = omega arith; within2 = omega arith }
 
-pub whole-halves-not : (ss : List Share) → Whole 2 1 3 halves ss → ⊥
-whole-halves-not [] s = s .does
-whole-halves-not (a ∷ []) s = s .does .1
+pub whole-halves-not : (ss : List Share) → WholeSplit 2 1 3 halves ss → ⊥
+whole-halves-not [] s = s .done
+whole-halves-not (a ∷ []) s = s .done .1
 whole-halves-not (a ∷ b ∷ []) s = omega arith
-whole-halves-not (a ∷ b ∷ c ∷ ss) s = s .does .1 .1
+whole-halves-not (a ∷ b ∷ c ∷ ss) s = s .done .1 .1
 
 -- ==== Movers
 pub movers-are : map isMover (share 1 1 ∷ share 0 1 ∷ share 1 0 ∷ share 0 0 ∷ []) ≡ true ∷ false ∷ false ∷ false ∷ []

@@ -25,7 +25,7 @@ use Rattle.model.specs.declared.Job.{Job}
 use Rattle.model.specs.declared.Job.the-variants.{Both, OnlyFirst, OnlySecond}
 use Rattle.model.specs.declared.Share.{Share}
 use Rattle.model.proofs.Lists.{all-map, all-at}
-use Rattle.model.proofs.Splits.{do-length}
+use Rattle.model.proofs.Splits.{all-done-length}
 use Rattle.legal.specs.Lawful.{LegalJob, Lawful}
 use Rattle.legal.specs.Legal.{outside, badCost, tooLong, failsOf, lowest, legalOf}
 use Rattle.legal.specs.declared.Test.the-variants.{Cost, Long}
@@ -192,7 +192,7 @@ module _ (board : Board) (js : List Job) (m k : ℕ) where
       go : (x : Answer (List Share)) → stepsOn board js ≡ x → ForRoom x → ListedIn (planOf board (length js) js m k)
       go (given ss) is six =
           rw (legal, is) (space-listed law ss is
-          (do-length (board .window) 1 js ss (shares-accepted board (length js) js (rw legal is) .whole .does)))
+          (all-done-length (board .window) 1 js ss (shares-accepted board (length js) js (rw legal is) .whole .done)))
       go (refused number place) is six = rw (legal, is, six .0, six .1) (room law (rw (six .0, six .1) at is))
 
   listed-in : ListedIn (planOf board (length js) js m k)
@@ -283,7 +283,7 @@ module _ (board : Board) (js : List Job) where
           lawful-legal board (length js) js law,
           is,
           told (or-tells (less-tells m (length ss)) (less-tells k (length (tableOf (board .window) ss))))
-              (rw (do-length (board .window) 1 js ss (steps-accepted ss law is .whole .does)) cause),
+              (rw (all-done-length (board .window) 1 js ss (steps-accepted ss law is .whole .done)) cause),
         )
 
     -- A lawful set is refused for room, or for tables that may be too short: a plan has few slices.

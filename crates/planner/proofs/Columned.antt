@@ -28,7 +28,7 @@ use Rattle.model.specs.declared.Kind.the-variants.{First, Second}
 use Rattle.model.specs.declared.Board.{Board}
 use Rattle.model.specs.declared.Job.{Job}
 use Rattle.model.specs.declared.Refusal.{Refusal}
-use Rattle.model.specs.declared.Refusal.the-variants.{Space}
+use Rattle.model.specs.declared.Refusal.the-variants.{TooShort}
 use Rattle.model.specs.declared.Share.{Share}
 use Rattle.model.specs.declared.Slice.{Slice}
 use Rattle.model.proofs.Columns.{upto-length, upto-map}
@@ -38,7 +38,7 @@ use Rattle.legal.specs.Lawful.{Lawful}
 use Rattle.slices.specs.Table.{tableOf}
 use Rattle.slices.proofs.Timetabled.{table-timetable}
 use Rattle.split.specs.Shares.{sharesOf}
-use Rattle.planner.specs.Place.{Tabled}
+use Rattle.planner.specs.Packing.{Tabled}
 use Rattle.planner.specs.Plan.{Plan, Counts, planOf, sharesIn, slicesIn, countsIn, saysPlanned, short, columnsOf, noRows, fitOf, front}
 use Rattle.planner.specs.Promise.{Columned, Filled}
 use Rattle.planner.specs.declared.Fitted.{Fitted}
@@ -133,8 +133,8 @@ module _ (board : Board) (n : ℕ) (js : List Job) (s1 s2 rows : List ℕ) where
       (ap (λ (x : Answer (List Share)). andThen x (λ (ss : List Share). cond (short (length s1) (length s2) (length rows)) (refused 7 0) (given (made ss)))) e)
 
   pub columned-short : {ss : List Share} → sharesOf board n js ≡ given ss → short (length s1) (length s2) (length rows) ≡ true
-      → Columned board n js s1 s2 rows (Refused Space) s1 s2 rows
-  columned-short is e = columned-none Space (rw (is, e) refl)
+      → Columned board n js s1 s2 rows (Refused TooShort) s1 s2 rows
+  columned-short is e = columned-none TooShort (rw (is, e) refl)
 
   -- The shares of two columns a and b, put into those that are lent.
   pub columned-plan : (count r : ℕ) (a b s1′ s2′ rows′ : List ℕ) → count ≤ length a → count ≤ length b → sharesOf board n js ≡ given (sharesFrom count a b)
@@ -196,9 +196,9 @@ module _ (board : Board) (n : ℕ) (js : List Job) (s1 s2 rows : List ℕ) where
               → s1′ ≡ front (map (ticksOn First) ss) s1 → s2′ ≡ front (map (ticksOn Second) ss) s2
               → rows′ ≡ front (map packOf (tableOf (board .window) ss)) rows
               → (s t : Bool) → ltb m jobs ≡ s → ltb k count ≡ t → planOf board n js m k ≡ cond (s || t) (refused 7 0) (given (made ss))
-              → Filled board n js m k (tables (cond (s || t) (noRows Space) (record { planned = Counted jobs count; shared = jobs; sliced = count })))
-          one ss is jobs count jobs-are count-is first second slices true t a b e = filled-none Space s1′ s2′ rows′ (sym e)
-          one ss is jobs count jobs-are count-is first second slices false true a b e = filled-none Space s1′ s2′ rows′ (sym e)
+              → Filled board n js m k (tables (cond (s || t) (noRows TooShort) (record { planned = Counted jobs count; shared = jobs; sliced = count })))
+          one ss is jobs count jobs-are count-is first second slices true t a b e = filled-none TooShort s1′ s2′ rows′ (sym e)
+          one ss is jobs count jobs-are count-is first second slices false true a b e = filled-none TooShort s1′ s2′ rows′ (sym e)
           one ss is jobs count jobs-are count-is first second slices false false a b e =
               let asks = table-asks board n js size is in
               let law = shares-lawful board n js is in

@@ -1,7 +1,7 @@
 -- The three demands, in their own words, of every call of `plan`: whatever the board, the jobs and the lent tables, and whatever the call
 -- answers. Read this page first. Each theorem starts from the promise in `plan`'s contract, `Promised`, and from nothing else: the call is
 -- given the jobs js and tables that hold ss and ls, it answers r, and the tables then hold ss′ and ls′.
--- The words are those of the model: Does (one job's work), Runs (a tick of a slice), SameCore, ticksIn, Split. Assumes nothing.
+-- The words are those of the model: DoneBy (one job's work), Runs (a tick of a slice), SameCore, ticksIn, Split. Assumes nothing.
 use mathlib.Core.List.{List}
 use mathlib.Core.Logic.{_↔_, ⊎-elim}
 use mathlib.Core.Path.{_≡_, refl, ap, _∙_}
@@ -13,7 +13,7 @@ use Rattle.model.specs.Board.{roomOf}
 use Rattle.model.specs.Limits.{jobsMost}
 use Rattle.model.specs.Movers.{movers, unevens}
 use Rattle.model.specs.Refusal.{Answer, given, refused, numberOf, placeOf}
-use Rattle.model.specs.Split.{share, ticksOn, Does, Split}
+use Rattle.model.specs.Split.{share, ticksOn, DoneBy, Split}
 use Rattle.model.specs.Timetable.{Runs, SameCore, Inside, ticksIn}
 use Rattle.model.specs.declared.Kind.{Kind}
 use Rattle.model.specs.declared.Kind.the-variants.{First, Second}
@@ -23,18 +23,18 @@ use Rattle.model.specs.declared.Refusal.{Refusal}
 use Rattle.model.specs.declared.Share.{Share}
 use Rattle.model.specs.declared.Slice.{Slice}
 use Rattle.model.proofs.Lists.{all-at}
-use Rattle.model.proofs.Splits.{do-at}
+use Rattle.model.proofs.Splits.{all-done-at}
 use Rattle.legal.specs.Lawful.{Lawful}
 use Rattle.legal.specs.Legal.{legalOf}
 use Rattle.split.specs.Promise.{stretchedOn, SmallerSplit}
 use Rattle.planner.specs.Listed.{BadCost, TooLong, LowestOf, ShortTables, Listed, window, cores, many, cost, long, room, space}
 use Rattle.planner.specs.Plan.{Counts, planOf, countsIn, saysPlanned}
-use Rattle.planner.specs.Place.{noSlice}
+use Rattle.planner.specs.Packing.{noSlice}
 use Rattle.planner.specs.Promise.{noJob, Promised}
 use Rattle.planner.specs.declared.Planned.{Planned}
 use Rattle.planner.specs.declared.Planned.the-variants.{Plan, Refused}
 use Rattle.planner.proofs.Causes.{plan-listed, listed-plan, short-tables, lawful-left}
-use Rattle.planner.proofs.Said.{counts-there, rows-pair, call-refused}
+use Rattle.planner.proofs.PromiseSaid.{counts-there, rows-pair, call-refused}
 
 -- ==== Demand 1. Any input at all is planned or refused by number and place. Nothing is left to the caller to check, every call ends, a
 -- refusal changes no entry of the lent tables.
@@ -133,10 +133,10 @@ module _ {board : Board} {js : List Job} {ss ss′ : List Share} {ls ls′ : Lis
     shareOf j = getD ss′ j (share 0 0)
 
     -- Each job gets its whole work: its share, in whole ticks, does it,
-    pub job-whole : (j : ℕ) → j < length js → Does (board .window) 1 (getD js j noJob) (shareOf j)
+    pub job-whole : (j : ℕ) → j < length js → DoneBy (board .window) 1 (getD js j noJob) (shareOf j)
     job-whole j l =
         rw (getD-take jobs ss′ j (share 0 0) (omega (arith, counts-there p .all))) at
-        (do-at (board .window) 1 noJob (share 0 0) js (take jobs ss′) j l (p .demand2 .whole .does))
+        (all-done-at (board .window) 1 noJob (share 0 0) js (take jobs ss′) j l (p .demand2 .whole .done))
 
     -- the lengths of its slices on each kind add up to the share,
     pub job-served : (kind : Kind) (j : ℕ) → j < length js → ticksIn kind j (take slices ls′) ≡ ticksOn kind (shareOf j)

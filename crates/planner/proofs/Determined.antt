@@ -13,10 +13,10 @@ use Rattle.model.specs.declared.Job.{Job}
 use Rattle.model.specs.declared.Share.{Share}
 use Rattle.model.specs.declared.Slice.{Slice}
 use Rattle.model.proofs.Determined.{Once, said-once, refusal-back, answerOf}
-use Rattle.planner.specs.Moving.{Moving}
+use Rattle.planner.specs.PlanMoves.{MovesPromised}
 use Rattle.planner.specs.Plan.{Counts, saysPlanned}
 use Rattle.planner.specs.Promise.{Columned, Promised}
-use Rattle.planner.specs.declared.Moved.{Moved}
+use Rattle.planner.specs.declared.PlannedMoves.{PlannedMoves}
 use Rattle.planner.specs.declared.Planned.{Planned}
 use Rattle.planner.specs.declared.Planned.the-variants.{Plan, Refused}
 
@@ -39,7 +39,7 @@ columns-once board n js s1 s2 rows r s p q =
     let slices : r .3 ≡ s .3 = cc in
     λ i. (answer i, first i, second i, slices i)
 
-pub moves-once : (board : Board) (jobs : List Job) (n : ℕ) → Once (λ (r : Moved). Moving board n (take n jobs) r)
+pub moves-once : (board : Board) (jobs : List Job) (n : ℕ) → Once (λ (r : PlannedMoves). MovesPromised board n (take n jobs) r)
 moves-once board jobs n r s p q =
     let planned : r .planned ≡ s .planned = planned-once _ (r .planned) (s .planned) (p .says) (q .says) in
     let moves : r .moves ≡ s .moves = cc in

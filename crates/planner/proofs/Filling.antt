@@ -21,10 +21,10 @@ use Rattle.model.specs.declared.Slice.{Slice}
 use Rattle.model.proofs.Columns.{upto-length, upto-at, upto-left, upto-none}
 use Rattle.model.proofs.Lists.{all-at}
 use Rattle.slices.specs.Table.{Piece, chosen, cutOf, sliceOf}
-use Rattle.planner.specs.Place.{classOf, shareOn, sharesOn, Filling, fillingOf, written, placed, filled, passed, Sized, Asks, Stands}
-use Rattle.planner.specs.declared.place.Class.{Class}
-use Rattle.planner.specs.declared.place.Class.the-variants.{Even, Other, Alone}
-use Rattle.planner.specs.declared.place.Place.{Place}
+use Rattle.planner.specs.Packing.{classOf, shareOn, sharesOn, Filling, fillingOf, written, placed, filled, passed, Sized, Asks, Stands}
+use Rattle.planner.specs.declared.packing.Class.{Class}
+use Rattle.planner.specs.declared.packing.Class.the-variants.{Even, Other, Alone}
+use Rattle.planner.specs.declared.packing.Spot.{Spot}
 
 -- ---- one run, by the core and the place there where it begins
 cut-some : (k : Kind) (w o : ℕ) (p : Piece) → 1 ≤ length (cutOf k w o p)
@@ -35,7 +35,7 @@ cut-some k w o p = go (leb (o % w + p .ticks) w) _ _ _
     go true x y z = omega arith
     go false x y z = omega arith
 
-module _ (k : Kind) (w job ticks : ℕ) (column : List ℕ) (p : Place) where
+module _ (k : Kind) (w job ticks : ℕ) (column : List ℕ) (p : Spot) where
   abbrev piece : Piece
   piece = record { job = job; ticks = ticks }
 
@@ -62,7 +62,7 @@ module _ (k : Kind) (w job ticks : ℕ) (column : List ℕ) (p : Place) where
     run-rows over = rw (run-cut, lt-leb _ _ over) at (asks .rows)
 
     -- The place r is behind the run.
-    module _ (r : Place) (ends : r .core * w + r .at ≡ p .core * w + p .at + ticks) (inside : r .at < w) where
+    module _ (r : Spot) (ends : r .core * w + r .at ≡ p .core * w + p .at + ticks) (inside : r .at < w) where
       pub run-one : (x : ℕ) → p .at + ticks ≤ w → x ≡ packOf (sliceOf k w job (p .core) (p .at) ticks) → r .count ≡ p .count + 1
           → Stands w run (set column (p .count) x) r
       unfolding placed written
@@ -118,7 +118,7 @@ filled-append k w t [] qs = refl
 filled-append k w t (p ∷ ps) qs = filled-append k w (placed k w t p) ps qs
 
 -- Where all pieces have room the first ones have.
-pub asks-part : (k : Kind) {w : ℕ} {column : List ℕ} {p : Place} (t : Filling) (ps qs : List Piece)
+pub asks-part : (k : Kind) {w : ℕ} {column : List ℕ} {p : Spot} (t : Filling) (ps qs : List Piece)
     → Asks w column p (filled k w t (ps ++ qs)) → Asks w column p (filled k w t ps)
 asks-part k {w} t ps qs h =
     let all = rw (filled-append k w t ps qs) at h in
@@ -126,20 +126,20 @@ asks-part k {w} t ps qs h =
     record { short = h .short; inside = h .inside; lent = h .lent; rows = omega arith; ends = omega arith }
 
 -- What is asked at one place is asked at the next.
-asks-on : {w : ℕ} {column column2 : List ℕ} {p q : Place} {end : Filling}
+asks-on : {w : ℕ} {column column2 : List ℕ} {p q : Spot} {end : Filling}
     → Asks w column p end → length column2 ≡ length column → q .at < w → Asks w column2 q end
 asks-on h same inside =
     record { short = h .short; inside = inside; lent = omega (arith, h .lent); rows = h .rows; ends = h .ends }
 
-module _ (k : Kind) {w : ℕ} (t : Filling) (ps qs : List Piece) {column : List ℕ} {p : Place} (stands : Stands w (filled k w t ps) column p) where
+module _ (k : Kind) {w : ℕ} (t : Filling) (ps qs : List Piece) {column : List ℕ} {p : Spot} (stands : Stands w (filled k w t ps) column p) where
   rest : filled k w (fillingOf w column p) qs ≡ filled k w t (ps ++ qs)
   rest = rw (filled-append k w t ps qs, stands .is)
 
-  pub asks-rest : {before : List ℕ} {q : Place} → Asks w before q (filled k w t (ps ++ qs)) → length column ≡ length before
+  pub asks-rest : {before : List ℕ} {q : Spot} → Asks w before q (filled k w t (ps ++ qs)) → length column ≡ length before
       → Asks w column p (filled k w (fillingOf w column p) qs)
   asks-rest h same = rw rest (asks-on h same (stands .inside))
 
-  pub stands-rest : {column2 : List ℕ} {q : Place} → Stands w (filled k w (fillingOf w column p) qs) column2 q → Stands w (filled k w t (ps ++ qs)) column2 q
+  pub stands-rest : {column2 : List ℕ} {q : Spot} → Stands w (filled k w (fillingOf w column p) qs) column2 q → Stands w (filled k w t (ps ++ qs)) column2 q
   stands-rest h = rw rest at h
 
 -- ---- a pass over the jobs
@@ -159,7 +159,7 @@ module _ (class : Class) (k : Kind) (w n : ℕ) (mine other : List ℕ) where
   left t i = passed class k w t i (drop i (sharesOn k n mine other))
 
   -- The code stands at job i, and what is left leads to the end.
-  pub record Passing (end : Filling) (column : List ℕ) (p : Place) (i : ℕ) : Type 0 where
+  pub record Passing (end : Filling) (column : List ℕ) (p : Spot) (i : ℕ) : Type 0 where
     pub asks : Asks w column p end
     pub is : left (fillingOf w column p) i ≡ end
 
@@ -174,7 +174,7 @@ module _ (class : Class) (k : Kind) (w n : ℕ) (mine other : List ℕ) where
         all-at (λ (s : Share). s .first .0 + s .second .0 ≤ w) (f i) (upto n f) i (rw (upto-length n f) below) (sized .each) in
         rw (upto-at n f (f i) i below, both-on k (at mine i) (at other i)) at each
 
-    module _ {end : Filling} {column : List ℕ} {p : Place} (passing : Passing end column p i) where
+    module _ {end : Filling} {column : List ℕ} {p : Spot} (passing : Passing end column p i) where
       abbrev this : List Piece
       this = chosen (classOf class k w) k i (shareOn k (at mine i) (at other i) ∷ [])
 
@@ -187,7 +187,7 @@ module _ (class : Class) (k : Kind) (w n : ℕ) (mine other : List ℕ) where
       pub pass-asks : Asks w column p (after class k w i (at mine i) (at other i) (fillingOf w column p))
       pass-asks = asks-part k (fillingOf w column p) this those (rw parts (passing .asks))
 
-      pub pass-on : (column2 : List ℕ) (q : Place) → length column2 ≡ length column
+      pub pass-on : (column2 : List ℕ) (q : Spot) → length column2 ≡ length column
           → Stands w (after class k w i (at mine i) (at other i) (fillingOf w column p)) column2 q → Passing end column2 q (i + 1)
       pass-on column2 q same stands =
           record {
@@ -195,7 +195,7 @@ module _ (class : Class) (k : Kind) (w n : ℕ) (mine other : List ℕ) where
             is = rest k (fillingOf w column p) this those stands ∙ parts;
           }
 
-  pub pass-ends : {end : Filling} {column : List ℕ} {p : Place} → Passing end column p n → Stands w end column p
+  pub pass-ends : {end : Filling} {column : List ℕ} {p : Spot} → Passing end column p n → Stands w end column p
   unfolding chosen filled
   pass-ends passing =
       record { is = rw (upto-none n (λ j. shareOn k (at mine j) (at other j))) at (passing .is); inside = passing .asks .inside }

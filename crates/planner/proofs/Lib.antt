@@ -4,10 +4,10 @@ pub mod Filling
 pub mod Rows
 pub mod Plans
 pub mod Columned
-pub mod Moving
+pub mod PlanMoves
 pub mod Lent
 pub mod Determined
 pub mod Causes
-pub mod Said
+pub mod PromiseSaid
 pub mod Demands
 pub mod WrongPlanners

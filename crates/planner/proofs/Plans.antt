@@ -13,14 +13,14 @@ use lib.ListN.{length}
 use Rattle.model.specs.Board.{roomOf}
 use Rattle.model.specs.Lists.{All}
 use Rattle.model.specs.Refusal.{Answer, given, refused, andThen}
-use Rattle.model.specs.Split.{Do}
+use Rattle.model.specs.Split.{AllDone}
 use Rattle.model.specs.declared.Kind.{Kind}
 use Rattle.model.specs.declared.Kind.the-variants.{First, Second}
 use Rattle.model.specs.declared.Board.{Board}
 use Rattle.model.specs.declared.Job.{Job}
 use Rattle.model.specs.declared.Job.the-variants.{Both, OnlyFirst, OnlySecond}
 use Rattle.model.specs.declared.Share.{Share}
-use Rattle.model.proofs.Splits.{do-length}
+use Rattle.model.proofs.Splits.{all-done-length}
 use Rattle.legal.specs.Lawful.{Lawful}
 use Rattle.legal.specs.Legal.{legalOf}
 use Rattle.legal.proofs.Lawful.{legal-lawful}
@@ -31,21 +31,21 @@ use Rattle.slices.proofs.Timetabled.{table-timetable}
 use Rattle.split.specs.Promise.{Accepted}
 use Rattle.split.specs.Shares.{splitOf, sharesOf}
 use Rattle.split.proofs.Demands.{demands}
-use Rattle.planner.specs.Place.{TableAsks}
+use Rattle.planner.specs.Packing.{TableAsks}
 use Rattle.planner.specs.Plan.{Plan, fitted, planOf}
-use Rattle.planner.specs.Promise.{Kept}
+use Rattle.planner.specs.Promise.{GoodPlan}
 
 -- ---- accepted shares
 abbrev Each : ℕ → List Share → Type 0
 Each w ss = All (λ (s : Share). s .first .0 + s .second .0 ≤ w) ss
 
-do-each : (w : ℕ) (js : List Job) (ss : List Share) → Do w 1 js ss → Each w ss
-do-each w [] [] d = tt
-do-each w [] (s ∷ ss) d = absurd d
-do-each w (j ∷ js) [] d = absurd d
-do-each w (Both c1 c2 ∷ js) (s ∷ ss) d = (omega arith, do-each w js ss (d .1))
-do-each w (OnlyFirst c1 ∷ js) (s ∷ ss) d = (omega arith, do-each w js ss (d .1))
-do-each w (OnlySecond c2 ∷ js) (s ∷ ss) d = (omega arith, do-each w js ss (d .1))
+done-each : (w : ℕ) (js : List Job) (ss : List Share) → AllDone w 1 js ss → Each w ss
+done-each w [] [] d = tt
+done-each w [] (s ∷ ss) d = absurd d
+done-each w (j ∷ js) [] d = absurd d
+done-each w (Both c1 c2 ∷ js) (s ∷ ss) d = (omega arith, done-each w js ss (d .1))
+done-each w (OnlyFirst c1 ∷ js) (s ∷ ss) d = (omega arith, done-each w js ss (d .1))
+done-each w (OnlySecond c2 ∷ js) (s ∷ ss) d = (omega arith, done-each w js ss (d .1))
 
 module _ (board : Board) (n : ℕ) (js : List Job) where
   -- Shares are given of legal sets alone.
@@ -65,7 +65,7 @@ module _ (board : Board) (n : ℕ) (js : List Job) where
     accepted-fits =
         record {
           some = law .window-some;
-          each = do-each (board .window) js ss (ok .whole .does);
+          each = done-each (board .window) js ss (ok .whole .done);
           within = within;
           one-uneven = ok .one-uneven;
         }
@@ -76,9 +76,9 @@ module _ (board : Board) (n : ℕ) (js : List Job) where
 
     pub accepted-few : length (tableOf (board .window) ss) + 2 ≤ length js + 2 * (board .first + board .second)
     accepted-few =
-        omega (arith, table-few board ss accepted-fits (law .first-some) (law .second-some), do-length (board .window) 1 js ss (ok .whole .does))
+        omega (arith, table-few board ss accepted-fits (law .first-some) (law .second-some), all-done-length (board .window) 1 js ss (ok .whole .done))
 
-    kept : Kept board js ss (tableOf (board .window) ss)
+    kept : GoodPlan board js ss (tableOf (board .window) ss)
     kept =
         record {
           whole = ok .whole;
@@ -96,8 +96,8 @@ module _ (board : Board) (n : ℕ) (js : List Job) where
       record {
         some = law .window-some;
         short = law .window-most;
-        few = omega (arith, law .few, do-length (board .window) 1 js ss (ok .whole .does));
-        each = do-each (board .window) js ss (ok .whole .does);
+        few = omega (arith, law .few, all-done-length (board .window) 1 js ss (ok .whole .done));
+        each = done-each (board .window) js ss (ok .whole .done);
         within1 = omega (arith, ok .whole .within1, mul-le-mul-right (board .window) (law .first-most));
         within2 = omega (arith, ok .whole .within2, mul-le-mul-right (board .window) (law .second-most));
         rows = omega (arith, law .few, accepted-few ss law ok, law .first-most, law .second-most);
@@ -124,7 +124,7 @@ module _ (board : Board) (n : ℕ) (js : List Job) where
         go (given ss) is e = one ss is (ltb m (length ss) || ltb k (length (tableOf (board .window) ss))) e
         go (refused number place) is e = let z : _≡_ {A = ℕ} 0 1 = cc in absurd (omega arith)
 
-    pub plan-kept : {p : Plan} → planOf board n js m k ≡ given p → Kept board js (p .shares) (p .slices)
+    pub plan-kept : {p : Plan} → planOf board n js m k ≡ given p → GoodPlan board js (p .shares) (p .slices)
     plan-kept {p} e =
         let made = plan-shares e in
         rw (made .1) (kept (p .shares) (shares-lawful (made .0)) (shares-accepted (made .0)))

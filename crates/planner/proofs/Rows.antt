@@ -16,7 +16,7 @@ use Rattle.model.specs.declared.Slice.{Slice}
 use Rattle.slices.specs.Table.{Piece, cutOf, packed, piecesOf, tableOf}
 use Rattle.slices.proofs.Packs.{total}
 use Rattle.slices.proofs.Pieces.{pieces-total}
-use Rattle.planner.specs.Place.{Filling, fillingOf, begun, written, placed, filled, Asks, Rowed, TableAsks, Tabled}
+use Rattle.planner.specs.Packing.{Filling, fillingOf, begun, written, placed, filled, Asks, Rowed, TableAsks, Tabled}
 
 written-append : (rows : List ℕ) (i : ℕ) (xs ys : List ℕ) → written rows i (xs ++ ys) ≡ written (written rows i xs) (i + length xs) ys
 unfolding written

@@ -22,7 +22,7 @@ use lib.ListN.{length, take, getD, replicate}
 use lib.Seq.{getD-take, length-take-le}
 use Rattle.model.specs.Board.{sameKind}
 use Rattle.model.specs.Lists.{All}
-use Rattle.model.specs.Split.{share, ticksOf, Do}
+use Rattle.model.specs.Split.{share, ticksOf, AllDone}
 use Rattle.model.specs.Timetable.{isOf, ticksIn}
 use Rattle.model.specs.declared.Kind.{Kind}
 use Rattle.model.specs.declared.Kind.the-variants.{First, Second}
@@ -36,7 +36,7 @@ use Rattle.legal.specs.Lawful.{LegalJob, Lawful}
 use Rattle.split.specs.Home.{stretchedAt}
 use Rattle.split.specs.Promise.{stretchedOn, SmallerSplit}
 use Rattle.planner.specs.Plan.{planOf, slicesIn}
-use Rattle.planner.specs.Place.{noSlice}
+use Rattle.planner.specs.Packing.{noSlice}
 use Rattle.planner.specs.Promise.{Promised}
 use Rattle.planner.specs.declared.Planned.{Planned}
 use Rattle.planner.specs.declared.Planned.the-variants.{Plan as Counted, Refused}
@@ -82,7 +82,7 @@ record Small (js : List Job) : Type 0 where
   few : length js ≤ 2
 
 -- A set of jobs whose shares are told.
-small : (js : List Job) (ss : List Share) → All (LegalJob 10) js → Do 10 1 js ss → ticksOf First ss + stretchedOn tiny js First ≤ 10
+small : (js : List Job) (ss : List Share) → All (LegalJob 10) js → AllDone 10 1 js ss → ticksOf First ss + stretchedOn tiny js First ≤ 10
     → ticksOf Second ss + stretchedOn tiny js Second ≤ 10 → length js ≤ 2 → Small js
 small js ss legal does within₁ within₂ few =
     record {
@@ -97,7 +97,7 @@ small js ss legal does within₁ within₂ few =
             few = omega arith;
             jobs = legal;
           };
-      split = record { whole = 1; some = omega arith; shares = ss; does = does; within1 = omega arith; within2 = omega arith };
+      split = record { whole = 1; some = omega arith; shares = ss; done = does; within1 = omega arith; within2 = omega arith };
       few = few;
     }
 

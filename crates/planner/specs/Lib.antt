@@ -1,6 +1,6 @@
-pub mod Place
+pub mod Packing
 pub mod Plan
 pub mod Promise
-pub mod Moving
+pub mod PlanMoves
 pub mod Most
 pub mod Listed

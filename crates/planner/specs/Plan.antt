@@ -20,7 +20,7 @@ use Rattle.model.specs.Refusal.{Answer, given, refused, saysRefusal, andThen}
 use Rattle.model.specs.declared.Board.{Board}
 use Rattle.model.specs.declared.Job.{Job}
 use Rattle.model.specs.declared.Refusal.{Refusal}
-use Rattle.model.specs.declared.Refusal.the-variants.{Space}
+use Rattle.model.specs.declared.Refusal.the-variants.{TooShort}
 use Rattle.model.specs.declared.Share.{Share}
 use Rattle.model.specs.declared.Slice.{Slice}
 use Rattle.slices.specs.Table.{tableOf}
@@ -75,7 +75,7 @@ noRows r = record { planned = Refused r; shared = 0; sliced = 0 }
 abbrev pub fitOf : Planned → (m k : ℕ) → Fitted
 fitOf (Refused r) m k = noRows r
 fitOf (Counted jobs rows) m k =
-    cond (ltb m jobs || ltb k rows) (noRows Space) (record { planned = Counted jobs rows; shared = jobs; sliced = rows })
+    cond (ltb m jobs || ltb k rows) (noRows TooShort) (record { planned = Counted jobs rows; shared = jobs; sliced = rows })
 
 abbrev pub front : {A : Type 0} → List A → List A → List A
 front new old = new ++ drop (length new) old

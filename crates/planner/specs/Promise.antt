@@ -3,7 +3,7 @@
 --   Columned     the plan in columns: the answer, and every number of each column
 --   Filled       the plan by value: the answer, and the rows that are to be written
 --   Unchanged    demand 1: a refusal changes no row of the lent tables
---   Kept         what demand 2 says of a plan: its shares are a split in whole ticks, at most m1 + m2 of them move and at most one mover is
+--   GoodPlan         what demand 2 says of a plan: its shares are a split in whole ticks, at most m1 + m2 of them move and at most one mover is
 --                not even, and its rows are a timetable of them, at most n + 2·(m1 + m2) − 2
 --   Served       demand 2: an accepted plan is one of which this is kept
 --   ForRoom      demand 3: a refusal for room, and when exactly it is given
@@ -20,7 +20,7 @@ use Rattle.model.specs.Movers.{movers, unevens}
 use Rattle.model.specs.Refusal.{given, refused}
 use Rattle.model.specs.Columns.{sharesIn as sharesFrom}
 use Rattle.model.specs.Packed.{packOf, slicesIn as slicesFrom}
-use Rattle.model.specs.Split.{ticksOn, Whole}
+use Rattle.model.specs.Split.{ticksOn, WholeSplit}
 use Rattle.model.specs.Timetable.{Timetable}
 use Rattle.model.specs.declared.Kind.the-variants.{First, Second}
 use Rattle.model.specs.declared.Board.{Board}
@@ -61,15 +61,15 @@ abbrev pub Unchanged : Planned → (ss ss′ : List Share) → (ls ls′ : List 
 Unchanged (Plan jobs slices) ss ss′ ls ls′ = Unit {0}
 Unchanged (Refused r) ss ss′ ls ls′ = (ss′ ≡ ss) × (ls′ ≡ ls)
 
-pub record Kept (board : Board) (js : List Job) (ss : List Share) (rows : List Slice) : Type 0 where
-  pub whole : Whole (board .window) (roomOf board First) (roomOf board Second) js ss
+pub record GoodPlan (board : Board) (js : List Job) (ss : List Share) (rows : List Slice) : Type 0 where
+  pub whole : WholeSplit (board .window) (roomOf board First) (roomOf board Second) js ss
   pub timetable : Timetable board ss rows
   pub few-movers : movers ss ≤ board .first + board .second
   pub one-uneven : unevens (board .window) ss ≤ 1
   pub few : length rows + 2 ≤ length js + 2 * (board .first + board .second)
 
 abbrev pub Served : Board → List Job → Planned → List Share → List Slice → Type 0
-Served board js (Plan jobs slices) ss′ ls′ = Kept board js (take jobs ss′) (take slices ls′)
+Served board js (Plan jobs slices) ss′ ls′ = GoodPlan board js (take jobs ss′) (take slices ls′)
 Served board js (Refused r) ss′ ls′ = Unit {0}
 
 pub record ForRoom (board : Board) (js : List Job) (r : Planned) : Type 0 where

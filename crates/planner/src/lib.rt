@@ -2,7 +2,7 @@
 //
 // One core serves every caller: `plan_columns`, over columns of numbers (crate model, specs/Columns.antt and specs/Packed.antt), which callers with a text
 // call as it is. `plan` is the call over lent records: the few functions over them only read or write rows, one by one.
-mod place;
+mod packing;
 
 ghost use mathlib.Core.Path.{_≡_};
 ghost use mathlib.Core.List.{_++_, map};
@@ -12,7 +12,7 @@ ghost use Rattle.model.specs.Columns.{costOn, jobsIn, sharesIn};
 ghost use Rattle.model.specs.Limits.{jobsMost, slicesMost};
 ghost use Rattle.model.specs.Packed.{sliceIn, slicesIn};
 ghost use Rattle.model.specs.Split.{share};
-ghost use Rattle.planner.specs.Moving.{movesBelow, noMoves, Moving};
+ghost use Rattle.planner.specs.PlanMoves.{movesBelow, noMoves, MovesPromised};
 ghost use Rattle.planner.specs.Plan.{fitOf, noRows, short};
 ghost use Rattle.planner.specs.Promise.{Columned, Filled, Promised};
 use model::Board;
@@ -52,7 +52,7 @@ struct Tables {
 }
 
 // What was planned, with the moves of each job. All other rows are zero.
-pub struct Moved {
+pub struct PlannedMoves {
     pub planned: Planned,
     pub moves: [Moves; JOBS_MOST],
 }
@@ -101,13 +101,13 @@ pub fn plan_columns(
         Outcome::Refused(refusal) => Planned::Refused(refusal),
         Outcome::Shares(count) => {
             if is_short(shares1.len(), shares2.len(), slices.len()) {
-                return Planned::Refused(Refusal::Space);
+                return Planned::Refused(Refusal::TooShort);
             }
             let ticks1 = shared.first;
             let ticks2 = shared.second;
             put_ticks(ticks1, count, shares1);
             put_ticks(ticks2, count, shares2);
-            let rows = place::table(board.window, shares1, shares2, count, slices);
+            let rows = packing::table(board.window, shares1, shares2, count, slices);
             Planned::Plan(count, rows)
         }
     }
@@ -132,10 +132,10 @@ fn fit(planned: Planned, share_rows: usize, slice_rows: usize) -> Fitted
         Planned::Refused(refusal) => no_rows(refusal),
         Planned::Plan(jobs, rows) => {
             if share_rows < jobs {
-                return no_rows(Refusal::Space);
+                return no_rows(Refusal::TooShort);
             }
             if slice_rows < rows {
-                return no_rows(Refusal::Space);
+                return no_rows(Refusal::TooShort);
             }
             Fitted {
                 planned: Planned::Plan(jobs, rows),
@@ -210,8 +210,8 @@ fn moves_below(rows: [Slice; SLICES_MOST], sliced: usize, n: usize) -> [Moves; J
 }
 
 // The moves of each of the first `n` jobs, by the plan of them; or a refusal, as the planning call gives it.
-pub fn moves(board: Board, jobs: [Job; JOBS_MOST], n: usize) -> Moved
-    ensures { λ r. ⌜ Moving board n (take n jobs) r ⌝ }
+pub fn moves(board: Board, jobs: [Job; JOBS_MOST], n: usize) -> PlannedMoves
+    ensures { λ r. ⌜ MovesPromised board n (take n jobs) r ⌝ }
 {
     let first = model::costs(Kind::First, jobs, n);
     let second = model::costs(Kind::Second, jobs, n);
@@ -220,7 +220,7 @@ pub fn moves(board: Board, jobs: [Job; JOBS_MOST], n: usize) -> Moved
     let rows = rows_of(slices);
     let moves = moves_below(rows, t.sliced, t.shared);
     let planned = t.planned;
-    Moved { planned, moves }
+    PlannedMoves { planned, moves }
 }
 
 // As many jobs as a set can have, of a slice that may be longer.

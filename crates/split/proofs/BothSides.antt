@@ -12,7 +12,7 @@ use mathlib.Core.Path.{_≡_, refl}
 use Prim.Native.Nat.{ℕ, _+_}
 use native.Mathlib.Omega.{arith}
 use Rattle.model.specs.Refusal.{given, refused}
-use Rattle.model.specs.Split.{share, Does, Do, ticksOf, Split}
+use Rattle.model.specs.Split.{share, DoneBy, AllDone, ticksOf, Split}
 use Rattle.model.specs.declared.Kind.the-variants.{First, Second}
 use Rattle.model.specs.declared.Job.{Job}
 use Rattle.model.specs.declared.Share.{Share}
@@ -71,12 +71,12 @@ accepted-second-not a = omega arith
 -- ==== Demands and Exactly
 -- The two shares of a set of two jobs.
 two-shares : {w room1 room2 : ℕ} {i j : Job} (s : Split w room1 room2 (i ∷ j ∷ []))
-    → (a : Share) × (b : Share) × Does w (s .whole) i a × Does w (s .whole) j b × (ticksOf First (s .shares) ≡ a .first .0 + b .first .0)
+    → (a : Share) × (b : Share) × DoneBy w (s .whole) i a × DoneBy w (s .whole) j b × (ticksOf First (s .shares) ≡ a .first .0 + b .first .0)
     × (ticksOf Second (s .shares) ≡ a .second .0 + b .second .0)
-two-shares {w} {i = i} {j = j} s = go (s .shares) (s .does)
+two-shares {w} {i = i} {j = j} s = go (s .shares) (s .done)
   where
-    go : (ss : List Share) → Do w (s .whole) (i ∷ j ∷ []) ss
-        → (a : Share) × (b : Share) × Does w (s .whole) i a × Does w (s .whole) j b × (ticksOf First ss ≡ a .first .0 + b .first .0)
+    go : (ss : List Share) → AllDone w (s .whole) (i ∷ j ∷ []) ss
+        → (a : Share) × (b : Share) × DoneBy w (s .whole) i a × DoneBy w (s .whole) j b × (ticksOf First ss ≡ a .first .0 + b .first .0)
         × (ticksOf Second ss ≡ a .second .0 + b .second .0)
     go [] d = absurd d
     go (a ∷ []) d = absurd (d .1)
@@ -91,7 +91,7 @@ demands-first six s = omega (arith, two-shares s)
 pub demands-first-not : Demands (board 1 1) (B 6 16 ∷ F 5 ∷ []) (refused 6 0) → ⊥
 unfolding stretchedAt
 demands-first-not d =
-    d refl (record { whole = 1; some = omega arith; shares = share 4 6 ∷ share 5 0 ∷ []; does = omega arith; within1 = omega arith; within2 = omega arith })
+    d refl (record { whole = 1; some = omega arith; shares = share 4 6 ∷ share 5 0 ∷ []; done = omega arith; within1 = omega arith; within2 = omega arith })
 
 pub demands-second : Demands (board 1 1) (B 16 6 ∷ S 6 ∷ []) (refused 6 0)
 unfolding stretchedAt
@@ -100,7 +100,7 @@ demands-second six s = omega (arith, two-shares s)
 pub demands-second-not : Demands (board 1 1) (B 16 6 ∷ S 5 ∷ []) (refused 6 0) → ⊥
 unfolding stretchedAt
 demands-second-not d =
-    d refl (record { whole = 1; some = omega arith; shares = share 6 4 ∷ share 0 5 ∷ []; does = omega arith; within1 = omega arith; within2 = omega arith })
+    d refl (record { whole = 1; some = omega arith; shares = share 6 4 ∷ share 0 5 ∷ []; done = omega arith; within1 = omega arith; within2 = omega arith })
 
 -- Shares that are given are accepted ones.
 pub demands-given-not : Demands (board 1 1) (F 10 ∷ []) (given (share 9 0 ∷ [])) → ⊥
@@ -111,7 +111,7 @@ pub exactly-refused-not : Exactly (board 1 1) 2 (F 10 ∷ S 10 ∷ []) (refused 
 unfolding lowest legalOf stretchedAt
 exactly-refused-not e =
     e refl refl refl .0 refl
-    (record { whole = 1; some = omega arith; shares = share 10 0 ∷ share 0 10 ∷ []; does = omega arith; within1 = omega arith; within2 = omega arith })
+    (record { whole = 1; some = omega arith; shares = share 10 0 ∷ share 0 10 ∷ []; done = omega arith; within1 = omega arith; within2 = omega arith })
 
 pub exactly-given-not : Exactly (board 1 1) 2 (F 10 ∷ F 1 ∷ []) (given (share 10 0 ∷ share 1 0 ∷ [])) → ⊥
 unfolding lowest legalOf stretchedAt

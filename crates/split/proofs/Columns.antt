@@ -22,10 +22,10 @@ use Rattle.model.specs.declared.Kind.the-variants.{First}
 use Rattle.split.specs.Rows.{Row, Next, Nobody, At}
 use Rattle.split.specs.declared.Best.{Best}
 use Rattle.split.specs.declared.Sums.{Sums}
-use Rattle.split.proofs.Leads.{Leads, IsNext, next-law}
+use Rattle.split.proofs.NextRow.{Leads, IsNext, next-law}
 use Rattle.split.proofs.Placed.{moved-fits}
 use Rattle.split.proofs.Totals.{sum-set}
-use Rattle.split.proofs.Turns.{steps-within, steps-last, steps-nobody, moved-still, Turn, turn-law}
+use Rattle.split.proofs.StepByStep.{steps-within, steps-last, steps-nobody, moved-still, Turn, turn-law}
 
 -- ---- the row that comes next
 next-more : (x : Next) (k : ℕ) (rs : List Row) (r : Row) → nextFrom x k (rs ++ (r ∷ [])) ≡ better (nextFrom x k rs) (k + length rs) r

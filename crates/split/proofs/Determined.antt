@@ -24,7 +24,7 @@ use Rattle.split.specs.Promise.{Promised}
 use Rattle.split.specs.Shares.{sharesOf, balanceOf, saysOutcome, rowsOf, none, saysBalanced}
 use Rattle.split.specs.declared.Balance.{Balance}
 use Rattle.split.specs.declared.Balanced.{Balanced}
-use Rattle.split.specs.declared.Balanced.the-variants.{Given, Unbalanced}
+use Rattle.split.specs.declared.Balanced.the-variants.{Given, Refused as NoBalance}
 use Rattle.split.specs.declared.Outcome.{Outcome}
 use Rattle.split.specs.declared.Outcome.the-variants.{Shares, Refused}
 use Rattle.split.specs.declared.Shared.{Shared}
@@ -67,11 +67,11 @@ split-once board n js =
     (λ r p. let a = p .2 .answers in sym (shared-back (r .outcome) (r .first) (r .second) (p .0) (p .1) (a .few) (a .rest1) (a .rest2)) ∙ ap sharedOf (a .says))
 
 abbrev balancedOf : Answer Balance → Balanced
-balancedOf = answerOf Given Unbalanced
+balancedOf = answerOf Given NoBalance
 
 balanced-back : (r : Balanced) → balancedOf (saysBalanced r) ≡ r
 balanced-back (Given b) = refl
-balanced-back (Unbalanced r) = ap Unbalanced (refusal-back r)
+balanced-back (NoBalance r) = ap NoBalance (refusal-back r)
 
 pub starting-balance-once : (board : Board) (jobs : List Job) (n : ℕ) → Once (λ (r : Balanced). saysBalanced r ≡ balanceOf board n (take n jobs))
 starting-balance-once board jobs n = said-once saysBalanced balancedOf balanced-back (balanceOf board n (take n jobs))

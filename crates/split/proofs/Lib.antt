@@ -1,8 +1,8 @@
 pub mod BothSides
 pub mod Signed
 pub mod Number
-pub mod Leads
-pub mod Turns
+pub mod NextRow
+pub mod StepByStep
 pub mod Homes
 pub mod Answered
 pub mod Columns
@@ -11,13 +11,13 @@ pub mod Seen
 pub mod View
 pub mod Price
 pub mod Totals
-pub mod Stands
-pub mod Run
+pub mod RowPrices
+pub mod StepsEnd
 pub mod Smaller
 pub mod Demands
 pub mod Promises
 pub mod Each
 pub mod Placed
 pub mod Closed
-pub mod More
+pub mod MoreRoom
 pub mod Determined

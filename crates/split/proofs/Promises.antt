@@ -1,6 +1,6 @@
 -- The demands of every call of `split`, in their own words, as planner/proofs/Demands.antt has them for the planning call: the shares' half of
 -- demand 2, job by job, and demand 3. Each theorem starts from the promise in `split`'s contract, `Promised`, and from nothing else: the call is
--- given a board and the n jobs js, and answers r. The words are those of the model: Does, ticksOf, Split. Assumes nothing.
+-- given a board and the n jobs js, and answers r. The words are those of the model: DoneBy, ticksOf, Split. Assumes nothing.
 use mathlib.Core.List.{List}
 use mathlib.Core.Logic.{_↔_}
 use mathlib.Core.Path.{_≡_, refl}
@@ -9,14 +9,14 @@ use lib.ListN.{length, getD}
 use Rattle.model.specs.Board.{roomOf}
 use Rattle.model.specs.Movers.{movers, unevens}
 use Rattle.model.specs.Refusal.{given, refused}
-use Rattle.model.specs.Split.{share, Does, ticksOf, Split}
+use Rattle.model.specs.Split.{share, DoneBy, ticksOf, Split}
 use Rattle.model.specs.declared.Kind.{Kind}
 use Rattle.model.specs.declared.Kind.the-variants.{First, Second}
 use Rattle.model.specs.declared.Board.{Board}
 use Rattle.model.specs.declared.Job.{Job}
 use Rattle.model.specs.declared.Job.the-variants.{OnlyFirst}
 use Rattle.model.specs.declared.Share.{Share}
-use Rattle.model.proofs.Splits.{do-length, do-at}
+use Rattle.model.proofs.Splits.{all-done-length, all-done-at}
 use Rattle.legal.specs.Legal.{legalOf}
 use Rattle.split.specs.Promise.{stretchedOn, Accepted, Promised}
 use Rattle.split.specs.Shares.{saysShared}
@@ -37,11 +37,11 @@ module _ {board : Board} {n : ℕ} {js : List Job} {r : Shared} (p : Promised bo
 
     -- There is a share for each job,
     pub each-shared : length ss ≡ length js
-    each-shared = do-length (board .window) 1 js ss (accepted .whole .does)
+    each-shared = all-done-length (board .window) 1 js ss (accepted .whole .done)
 
     -- which does its whole work in whole ticks,
-    pub job-whole : (j : ℕ) → j < length js → Does (board .window) 1 (jobAt j) (shareAt j)
-    job-whole j l = do-at (board .window) 1 (OnlyFirst (record { 0 = 0 })) (share 0 0) js ss j l (accepted .whole .does)
+    pub job-whole : (j : ℕ) → j < length js → DoneBy (board .window) 1 (jobAt j) (shareAt j)
+    job-whole j l = all-done-at (board .window) 1 (OnlyFirst (record { 0 = 0 })) (share 0 0) js ss j l (accepted .whole .done)
 
     -- and all shares together are within each kind's room.
     pub kind-within : (kind : Kind) → ticksOf kind ss ≤ roomOf board kind

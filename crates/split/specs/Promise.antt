@@ -12,7 +12,7 @@ use Rattle.model.specs.Board.{roomOf}
 use Rattle.model.specs.Movers.{movers, unevens}
 use Rattle.model.specs.Refusal.{Answer, given, refused}
 use Rattle.model.specs.Lists.{sumOf}
-use Rattle.model.specs.Split.{Split, Whole}
+use Rattle.model.specs.Split.{Split, WholeSplit}
 use Rattle.model.specs.declared.Kind.{Kind}
 use Rattle.model.specs.declared.Kind.the-variants.{First, Second}
 use Rattle.model.specs.declared.Board.{Board}
@@ -39,7 +39,7 @@ abbrev pub SmallerSplit : Board → List Job → Type 0
 SmallerSplit board js = Split (board .window) (smaller board js First) (smaller board js Second) js
 
 pub record Accepted (board : Board) (js : List Job) (ss : List Share) : Type 0 where
-  pub whole : Whole (board .window) (roomOf board First) (roomOf board Second) js ss
+  pub whole : WholeSplit (board .window) (roomOf board First) (roomOf board Second) js ss
   pub one-uneven : unevens (board .window) ss ≤ 1
   pub few-movers : movers ss ≤ board .first + board .second
 

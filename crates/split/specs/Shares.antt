@@ -34,7 +34,7 @@ use Rattle.split.specs.declared.Outcome.the-variants.{Shares, Refused}
 use Rattle.split.specs.declared.Shared.{Shared}
 use Rattle.split.specs.declared.Balance.{Balance}
 use Rattle.split.specs.declared.Balanced.{Balanced}
-use Rattle.split.specs.declared.Balanced.the-variants.{Given, Unbalanced}
+use Rattle.split.specs.declared.Balanced.the-variants.{Given, Refused as NoBalance}
 
 abbrev pub shareOf : Kind → Row → Share
 shareOf k r = share (on k (r .here) (r .there)) (on k (r .there) (r .here))
@@ -115,4 +115,4 @@ none refusal = record { outcome = Refused refusal; first = replicate jobsMost 0;
 
 abbrev pub saysBalanced : Balanced → Answer Balance
 saysBalanced (Given b) = given b
-saysBalanced (Unbalanced r) = saysRefusal r
+saysBalanced (NoBalance r) = saysRefusal r

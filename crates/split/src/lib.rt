@@ -66,7 +66,7 @@ pub struct Balance {
 // The starting balance, or a refusal.
 pub enum Balanced {
     Given(Balance),
-    Unbalanced(Refusal),
+    Refused(Refusal),
 }
 
 // The row found so far, with its costs: near is 0 and the number is the count of the rows where none is found.
@@ -416,7 +416,7 @@ pub fn starting_balance(board: Board, jobs: [Job; JOBS_MOST], n: usize) -> Balan
     let first = model::costs(Kind::First, jobs, n);
     let second = model::costs(Kind::Second, jobs, n);
     match legal::check(board, &first, &second, n) {
-        Checked::Refused(refusal) => Balanced::Unbalanced(refusal),
+        Checked::Refused(refusal) => Balanced::Refused(refusal),
         Checked::Legal => {
             let ticks = home_ticks(&first, &second, n);
             Balanced::Given(Balance {

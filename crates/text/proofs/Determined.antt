@@ -11,35 +11,35 @@ use Rattle.model.specs.Packed.{slicesIn}
 use Rattle.model.specs.Refusal.{Answer}
 use Rattle.model.specs.declared.Refusal.{Refusal}
 use Rattle.model.proofs.Determined.{Once, said-once, refusal-back, answerOf}
-use Rattle.text.specs.Input.{Head, saysOutcome, Reads}
+use Rattle.text.specs.Input.{Head, saysReading, Reads}
 use Rattle.text.specs.Output.{planText, refusalText, saysWritten, Writes}
-use Rattle.text.specs.declared.Outcome.{Outcome}
-use Rattle.text.specs.declared.Outcome.the-variants.{Set, Refused}
+use Rattle.text.specs.declared.Reading.{Reading}
+use Rattle.text.specs.declared.Reading.the-variants.{Set, Refused}
 use Rattle.text.specs.declared.Written.{Written}
-use Rattle.text.specs.declared.Written.the-variants.{Bytes, Full}
+use Rattle.text.specs.declared.Written.the-variants.{Bytes, Refused as NotWritten}
 
 -- What an answer on an input is taken back to.
-abbrev outcomeOf : Answer Head → Outcome
-outcomeOf = answerOf (λ h. Set (h .board) (h .count)) Refused
+abbrev readingOf : Answer Head → Reading
+readingOf = answerOf (λ h. Set (h .board) (h .count)) Refused
 
-outcome-back : (o : Outcome) → outcomeOf (saysOutcome o) ≡ o
-outcome-back (Set b n) = refl
-outcome-back (Refused r) = ap Refused (refusal-back r)
+reading-back : (o : Reading) → readingOf (saysReading o) ≡ o
+reading-back (Set b n) = refl
+reading-back (Refused r) = ap Refused (refusal-back r)
 
 -- What is read: the answer, and both columns after the call.
-pub read-once : (text c1 c2 : List ℕ) → Once (λ (r : Outcome × List ℕ × List ℕ). Reads text c1 c2 (r .0) (r .1) (r .2))
+pub read-once : (text c1 c2 : List ℕ) → Once (λ (r : Reading × List ℕ × List ℕ). Reads text c1 c2 (r .0) (r .1) (r .2))
 read-once text c1 c2 r s p q =
-    let answer : r .0 ≡ s .0 = said-once saysOutcome outcomeOf outcome-back _ (r .0) (s .0) (p .says) (q .says) in
+    let answer : r .0 ≡ s .0 = said-once saysReading readingOf reading-back _ (r .0) (s .0) (p .says) (q .says) in
     let first : r .1 ≡ s .1 = p .first ∙ sym (q .first) in
     let second : r .2 ≡ s .2 = p .second ∙ sym (q .second) in
     λ i. (answer i, first i, second i)
 
 abbrev writtenOf : Answer ℕ → Written
-writtenOf = answerOf Bytes Full
+writtenOf = answerOf Bytes NotWritten
 
 written-back : (r : Written) → writtenOf (saysWritten r) ≡ r
 written-back (Bytes n) = refl
-written-back (Full r) = ap Full (refusal-back r)
+written-back (NotWritten r) = ap NotWritten (refusal-back r)
 
 -- Lines that are written to a lent text: the answer, and the text after the call.
 pub writes-once : (before lines : List ℕ) → Once (λ (r : Written × List ℕ). Writes before (r .1) lines (r .0))

@@ -19,11 +19,11 @@ use Rattle.model.specs.declared.Job.{Job}
 use Rattle.model.specs.declared.Kind.{Kind}
 use Rattle.model.specs.declared.Kind.the-variants.{First, Second}
 use Rattle.model.specs.declared.Refusal.{Refusal}
-use Rattle.model.specs.declared.Refusal.the-variants.{Space}
+use Rattle.model.specs.declared.Refusal.the-variants.{TooShort}
 use Rattle.text.specs.Input.{Input, short, front}
 use Rattle.text.specs.Reader.{GivesIn}
-use Rattle.text.specs.declared.Outcome.{Outcome}
-use Rattle.text.specs.declared.Outcome.the-variants.{Set, Refused}
+use Rattle.text.specs.declared.Reading.{Reading}
+use Rattle.text.specs.declared.Reading.the-variants.{Set, Refused}
 
 pub enough : (m1 m2 : ℕ) → short m1 m2 ≡ false → (jobsMost ≤ m1) × (jobsMost ≤ m2)
 enough m1 m2 e = go (ltb m1 jobsMost) (ltb m2 jobsMost) refl refl e
@@ -33,7 +33,7 @@ enough m1 m2 e = go (ltb m1 jobsMost) (ltb m2 jobsMost) refl refl e
     go true q a b e = absurd (let z : _≡_ {A = ℕ} 0 1 = cc in omega arith)
     go false true a b e = absurd (let z : _≡_ {A = ℕ} 0 1 = cc in omega arith)
 
-pub gives-as : {a b : Answer Input} {c1 c2 c1′ c2′ : List ℕ} {r : Outcome} → GivesIn a c1 c2 r c1′ c2′ → b ≡ a → GivesIn b c1 c2 r c1′ c2′
+pub gives-as : {a b : Answer Input} {c1 c2 c1′ c2′ : List ℕ} {r : Reading} → GivesIn a c1 c2 r c1′ c2′ → b ≡ a → GivesIn b c1 c2 r c1′ c2′
 gives-as {c1 = c1} {c2} {c1′} {c2′} {r} g e = subst (λ (x : Answer Input). GivesIn x c1 c2 r c1′ c2′) (sym e) g
 
 pub gives-refused : {a : Answer Input} {c1 c2 : List ℕ} (r : Refusal) → a ≡ saysRefusal r → GivesIn a c1 c2 (Refused r) c1 c2
@@ -46,7 +46,7 @@ module _ (board : Board) (js : List Job) {n : ℕ} (size : length js ≡ n) (few
   abbrev set : Answer Input
   set = given (record { board = board; jobs = js })
 
-  pub gives-short : short (length c1) (length c2) ≡ true → GivesIn set c1 c2 (Refused Space) c1 c2
+  pub gives-short : short (length c1) (length c2) ≡ true → GivesIn set c1 c2 (Refused TooShort) c1 c2
   gives-short e = rw e (record { says = refl; few = omega arith; first = refl; second = refl })
 
   copied : (k : Kind) (c : List ℕ) {c′ cs : List ℕ} → cs ≡ costs k js → c′ ≡ upto n (λ i. at cs i) ++ drop n c → c′ ≡ front k js c

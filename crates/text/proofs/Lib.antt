@@ -1,7 +1,7 @@
 pub mod Lines
 pub mod Digits
 pub mod Records
-pub mod Turns
+pub mod LineByLine
 pub mod Stores
 pub mod PlanText
 pub mod RoundTrip

@@ -9,10 +9,10 @@ use lib.Dec.{ltb}
 use lib.ListN.{length, drop, getD, set}
 use lib.Seq.{sets, sets-eq, drop-cons}
 use native.Mathlib.Numerals.{add-one}
-use Rattle.model.specs.declared.Refusal.the-variants.{Space}
+use Rattle.model.specs.declared.Refusal.the-variants.{TooShort}
 use Rattle.text.specs.Hex.{digitsOf, lineOf, textOf}
 use Rattle.text.specs.Output.{Writes}
-use Rattle.text.specs.declared.Written.the-variants.{Bytes, Full}
+use Rattle.text.specs.declared.Written.the-variants.{Bytes, Refused}
 
 pub sets-append : (l : List ℕ) (i : ℕ) (xs ys : List ℕ) → sets l i (xs ++ ys) ≡ sets (sets l i xs) (i + length xs) ys
 sets-append l i [] ys = rw add-zero
@@ -30,7 +30,7 @@ unfolding textOf
 text-more t to r rs = sym (sets-append t to (lineOf r) (textOf rs))
 
 -- What both writers owe of a text that is too short, and of one that is not.
-pub too-short : (text lines : List ℕ) (size : ℕ) → length lines ≡ size → length text < size → Writes text text lines (Full Space)
+pub too-short : (text lines : List ℕ) (size : ℕ) → length lines ≡ size → length text < size → Writes text text lines (Refused TooShort)
 too-short text lines size e short =
     let tested : ltb (length text) (length lines) ≡ true = lt-ltb (length text) (length lines) (rw e short) in
     record { says = rw tested; text = rw tested }

@@ -5,7 +5,7 @@
 --   jobsFrom     the jobs of the lines after the first: refusal 10 for a board, refusal 3 for one job too many
 --   inputOf      a text's board and jobs, or the refusal of its first bad line
 --   headOf       an answer's board and the number of its jobs; jobsGiven, its jobs
---   saysOutcome  what the code's outcome says: a head, or a refusal
+--   saysReading  what the code's outcome says: a head, or a refusal
 --   short        whether columns are too short for some set
 --   inColumns    an answer for columns of so many rows: refusal 7 where they are too short
 --   readOf       what a text says for columns of so many rows
@@ -29,8 +29,8 @@ use Rattle.model.specs.declared.Kind.the-variants.{First, Second}
 use Rattle.text.specs.Hex.{Maybe, none, some, linesOf, bytesOf, numberIn}
 use Rattle.text.specs.declared.Entry.{Entry}
 use Rattle.text.specs.declared.Entry.the-variants.{OfBoard, OfJob}
-use Rattle.text.specs.declared.Outcome.{Outcome}
-use Rattle.text.specs.declared.Outcome.the-variants.{Set, Refused}
+use Rattle.text.specs.declared.Reading.{Reading}
+use Rattle.text.specs.declared.Reading.the-variants.{Set, Refused}
 
 -- 01: W in two bytes, the cores of the first kind and of the second.
 abbrev pub boardIn : List ℕ → Board
@@ -109,9 +109,9 @@ abbrev pub jobsGiven : Answer Input → List Job
 jobsGiven (given i) = i .jobs
 jobsGiven (refused n p) = []
 
-abbrev pub saysOutcome : Outcome → Answer Head
-saysOutcome (Set b n) = given (record { board = b; count = n })
-saysOutcome (Refused r) = saysRefusal r
+abbrev pub saysReading : Reading → Answer Head
+saysReading (Set b n) = given (record { board = b; count = n })
+saysReading (Refused r) = saysRefusal r
 
 -- Whether columns of m1 and m2 rows are too short for some set.
 abbrev pub short : (m1 m2 : ℕ) → Bool
@@ -129,11 +129,11 @@ abbrev pub front : Kind → List Job → List ℕ → List ℕ
 front k js c = map (costOn k) js ++ drop (length js) c
 
 -- What is read of a set into columns c1 and c2, where `answer` is what these get of it.
-pub record Gives (set answer : Answer Input) (c1 c2 : List ℕ) (r : Outcome) (c1′ c2′ : List ℕ) : Type 0 where
-  pub says : saysOutcome r ≡ headOf answer
+pub record Gives (set answer : Answer Input) (c1 c2 : List ℕ) (r : Reading) (c1′ c2′ : List ℕ) : Type 0 where
+  pub says : saysReading r ≡ headOf answer
   pub few : length (jobsGiven set) ≤ jobsMost
   pub first : c1′ ≡ front First (jobsGiven answer) c1
   pub second : c2′ ≡ front Second (jobsGiven answer) c2
 
-abbrev pub Reads : (text c1 c2 : List ℕ) → Outcome → (c1′ c2′ : List ℕ) → Type 0
+abbrev pub Reads : (text c1 c2 : List ℕ) → Reading → (c1′ c2′ : List ℕ) → Type 0
 Reads text c1 c2 r c1′ c2′ = Gives (inputOf text) (readOf text (length c1) (length c2)) c1 c2 r c1′ c2′

@@ -21,7 +21,7 @@ use Rattle.model.specs.declared.Share.{Share}
 use Rattle.model.specs.declared.Slice.{Slice}
 use Rattle.text.specs.Hex.{two, textOf}
 use Rattle.text.specs.declared.Written.{Written}
-use Rattle.text.specs.declared.Written.the-variants.{Bytes, Full}
+use Rattle.text.specs.declared.Written.the-variants.{Bytes, Refused}
 
 abbrev pub countRecord : (jobs slices : ℕ) → List ℕ
 countRecord jobs slices = 16 ∷ jobs ∷ slices ∷ []
@@ -60,7 +60,7 @@ written text new = cond (ltb (length text) (length new)) text (new ++ drop (leng
 
 abbrev pub saysWritten : Written → Answer ℕ
 saysWritten (Bytes n) = given n
-saysWritten (Full r) = saysRefusal r
+saysWritten (Refused r) = saysRefusal r
 
 -- A lent text before and after the lines were written.
 pub record Writes (before after lines : List ℕ) (r : Written) : Type 0 where

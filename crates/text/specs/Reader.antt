@@ -28,12 +28,12 @@ use Rattle.model.specs.declared.Kind.the-variants.{First, Second}
 use Rattle.text.specs.Hex.{Maybe, none, some, nibbleOf, numberIn}
 use Rattle.text.specs.Input.{Input, entryOf, recordSays, jobsFrom, inColumns, Gives}
 use Rattle.text.specs.declared.Entry.{Entry}
-use Rattle.text.specs.declared.Outcome.{Outcome}
+use Rattle.text.specs.declared.Reading.{Reading}
 use Rattle.text.specs.declared.reader.Line.{Line}
-use Rattle.text.specs.declared.reader.Line.the-variants.{Says, Bad}
+use Rattle.text.specs.declared.reader.Line.the-variants.{Says, Refused as BadLine}
 use Rattle.text.specs.declared.reader.Numbers.{Numbers}
 use Rattle.text.specs.declared.reader.Row.{Row}
-use Rattle.text.specs.declared.reader.Row.the-variants.{Holds, Wrong}
+use Rattle.text.specs.declared.reader.Row.the-variants.{Holds, Refused as BadRow}
 use Rattle.text.specs.declared.reader.Run.{Run}
 
 unfoldable pub lineLength : List ℕ → ℕ
@@ -91,7 +91,7 @@ pub record HoldsRecord (bs : List ℕ) (size : ℕ) (line : Numbers) : Type 0 wh
 
 abbrev pub saysLine : Line → Answer Entry
 saysLine (Says e) = given e
-saysLine (Bad r) = saysRefusal r
+saysLine (BadLine r) = saysRefusal r
 
 pub record SaysRecord (size : ℕ) (line : Numbers) (i : ℕ) (r : Line) : Type 0 where
   pub is : (bs : List ℕ) → HoldsRecord bs size line → saysLine r ≡ recordSays i (entryOf bs)
@@ -107,10 +107,10 @@ costsSaid (refused k p) = refused k p
 
 abbrev pub saysRow : Row → Answer Costs
 saysRow (Holds c1 c2) = given (record { first = c1; second = c2 })
-saysRow (Wrong r) = saysRefusal r
+saysRow (BadRow r) = saysRefusal r
 
 abbrev pub setFrom : Board → List (List ℕ) → Answer Input
 setFrom b lines = andThen (jobsFrom 2 0 lines) (λ (js : List Job). given (record { board = b; jobs = js }))
 
-abbrev pub GivesIn : Answer Input → (c1 c2 : List ℕ) → Outcome → (c1′ c2′ : List ℕ) → Type 0
+abbrev pub GivesIn : Answer Input → (c1 c2 : List ℕ) → Reading → (c1′ c2′ : List ℕ) → Type 0
 GivesIn set c1 c2 r c1′ c2′ = Gives set (inColumns set (length c1) (length c2)) c1 c2 r c1′ c2′

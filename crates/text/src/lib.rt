@@ -1,15 +1,15 @@
 // The text of document 01: lines of hexadecimal, one record a line. A reader of an input (a board, then jobs) into columns that the caller lends, and
 // writers of a plan's lines and of a refusal's line into a text that the caller lends.
 mod reader;
-mod write;
+mod writer;
 
 use model::Board;
 use model::Job;
 use model::Refusal;
 pub use reader::read;
-pub use write::ANSWER_MOST;
-pub use write::write_plan;
-pub use write::write_refusal;
+pub use writer::ANSWER_MOST;
+pub use writer::write_plan;
+pub use writer::write_refusal;
 
 // What a line of an input says.
 pub enum Entry {
@@ -18,7 +18,7 @@ pub enum Entry {
 }
 
 // A board with as many jobs as are counted, or a refusal.
-pub enum Outcome {
+pub enum Reading {
     Set(Board, usize),
     Refused(Refusal),
 }
@@ -26,5 +26,5 @@ pub enum Outcome {
 // How many bytes of a lent text were written, or the refusal of a text that is too short.
 pub enum Written {
     Bytes(usize),
-    Full(Refusal),
+    Refused(Refusal),
 }

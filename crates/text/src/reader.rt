@@ -11,7 +11,7 @@ ghost use Rattle.text.specs.Hex.{linesOf, nibbleOf, bytesOf};
 ghost use Rattle.text.specs.Input.{jobIn, entryJob, recordSays, lineSays, asJob, short, Reads};
 ghost use Rattle.text.specs.Reader.{lineIn, isThere, valueOf, digitsIn, isEnd, Spells, Numbered, SaysRecord, saysLine, saysRow, costsSaid, setFrom, GivesIn};
 use super::Entry;
-use super::Outcome;
+use super::Reading;
 use model::Board;
 use model::FirstTicks;
 use model::JOBS_MOST;
@@ -39,13 +39,13 @@ struct Numbers {
 // What a line says, or its refusal.
 enum Line {
     Says(Entry),
-    Bad(Refusal),
+    Refused(Refusal),
 }
 
 // What the job of a line after the first costs on each kind, as columns have it, or the line's refusal.
 enum Row {
     Holds(u32, u32),
-    Wrong(Refusal),
+    Refused(Refusal),
 }
 
 // The value of a hexadecimal digit, and 16 for any other byte.
@@ -147,17 +147,17 @@ fn job_in(allowed: u32, c1: u32, c2: u32, i: u8) -> Line
             if c2 == 0 {
                 Line::Says(Entry::OfJob(Job::OnlyFirst(FirstTicks(c1))))
             } else {
-                Line::Bad(Refusal::Record(i))
+                Line::Refused(Refusal::Record(i))
             }
         }
         2 => {
             if c1 == 0 {
                 Line::Says(Entry::OfJob(Job::OnlySecond(SecondTicks(c2))))
             } else {
-                Line::Bad(Refusal::Record(i))
+                Line::Refused(Refusal::Record(i))
             }
         }
-        _ => Line::Bad(Refusal::Record(i)),
+        _ => Line::Refused(Refusal::Record(i)),
     }
 }
 
@@ -170,7 +170,7 @@ fn record_says(size: usize, line: Numbers, i: u8) -> Line
         if tag == 2 {
             return job_in(line.head % 256, line.a, line.b, i);
         }
-        return Line::Bad(Refusal::Record(i));
+        return Line::Refused(Refusal::Record(i));
     }
     if size == 10 {
         if tag == 1 {
@@ -181,7 +181,7 @@ fn record_says(size: usize, line: Numbers, i: u8) -> Line
             }));
         }
     }
-    Line::Bad(Refusal::Record(i))
+    Line::Refused(Refusal::Record(i))
 }
 
 // Line i, which starts at `from`.
@@ -191,7 +191,7 @@ fn entry(text: &[u8], from: usize, line: Numbers, i: u8) -> Line
 {
     let end = line.end;
     if !is_line(text, from, end) {
-        return Line::Bad(Refusal::Digits(i));
+        return Line::Refused(Refusal::NotHex(i));
     }
     record_says(end - from, line, i)
 }
@@ -203,14 +203,14 @@ fn row_of(text: &[u8], from: usize, line: Numbers, n: usize) -> Row
 {
     let i = n as u8 + 2;
     match entry(text, from, line, i) {
-        Line::Bad(refusal) => Row::Wrong(refusal),
+        Line::Refused(refusal) => Row::Refused(refusal),
         Line::Says(says) => match says {
-            Entry::OfBoard(_) => Row::Wrong(Refusal::Order(i)),
+            Entry::OfBoard(_) => Row::Refused(Refusal::Order(i)),
             Entry::OfJob(job) => {
                 if n < JOBS_MOST {
                     Row::Holds(cost(Kind::First, job), cost(Kind::Second, job))
                 } else {
-                    Row::Wrong(Refusal::Jobs)
+                    Row::Refused(Refusal::TooManyJobs)
                 }
             }
         },
@@ -246,7 +246,7 @@ fn read_jobs(
     board: Board,
     first: &mut [u32],
     second: &mut [u32],
-) -> Outcome
+) -> Reading
     ensures { λ r. ⌜ GivesIn (setFrom board (linesOf (drop from (now (text .entry))))) (now (first .entry)) (now (second .entry)) r (now (first .exit)) (now (second .exit)) ⌝ }
 {
     let mut costs1 = [0u32; JOBS_MOST];
@@ -260,37 +260,37 @@ fn read_jobs(
                 costs1[n] = c1;
                 costs2[n] = c2;
             }
-            Row::Wrong(refusal) => {
-                return Outcome::Refused(refusal);
+            Row::Refused(refusal) => {
+                return Reading::Refused(refusal);
             }
         }
         n += 1;
         at = line.end + 1;
     }
     if is_short(first.len(), second.len()) {
-        return Outcome::Refused(Refusal::Space);
+        return Reading::Refused(Refusal::TooShort);
     }
     put_costs(&costs1, n, first);
     put_costs(&costs2, n, second);
-    Outcome::Set(board, n)
+    Reading::Set(board, n)
 }
 
 // What a text says, with what the jobs cost on each kind at the front of two columns. A refusal changes none of them. Columns that are too short for some
 // set are refused by 7, last of all.
-pub fn read(text: &[u8], first: &mut [u32], second: &mut [u32]) -> Outcome
+pub fn read(text: &[u8], first: &mut [u32], second: &mut [u32]) -> Reading
     ensures { λ r. ⌜ Reads (now (text .entry)) (now (first .entry)) (now (second .entry)) r (now (first .exit)) (now (second .exit)) ⌝ }
 {
     if TEXT_MOST < text.len() {
-        return Outcome::Refused(Refusal::Digits(0));
+        return Reading::Refused(Refusal::NotHex(0));
     }
     if text.len() == 0 {
-        return Outcome::Refused(Refusal::Order(1));
+        return Reading::Refused(Refusal::Order(1));
     }
     let line = line_at(text, 0);
     match entry(text, 0, line, 1) {
-        Line::Bad(refusal) => Outcome::Refused(refusal),
+        Line::Refused(refusal) => Reading::Refused(refusal),
         Line::Says(says) => match says {
-            Entry::OfJob(_) => Outcome::Refused(Refusal::Order(1)),
+            Entry::OfJob(_) => Reading::Refused(Refusal::Order(1)),
             Entry::OfBoard(board) => read_jobs(text, line.end + 1, board, first, second),
         },
     }

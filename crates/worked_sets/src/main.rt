@@ -83,7 +83,7 @@ fn put_balance(balanced: Balanced) {
             put_signed(b.second);
             put(b"; ");
         }
-        Balanced::Unbalanced(_) => put(b"no balance; "),
+        Balanced::Refused(_) => put(b"no balance; "),
     }
 }
 

@@ -8,19 +8,19 @@ use lib.ListN.{length}
 use Rattle.model.specs.Limits.{jobsMost}
 use Rattle.model.specs.Refusal.{Answer, given, refused}
 use Rattle.model.specs.declared.Board.{Board}
-use Rattle.text.specs.Input.{Input, Head, headOf, saysOutcome, inColumns, Gives}
-use Rattle.text.specs.declared.Outcome.{Outcome}
-use Rattle.text.specs.declared.Outcome.the-variants.{Set}
+use Rattle.text.specs.Input.{Input, Head, headOf, saysReading, inColumns, Gives}
+use Rattle.text.specs.declared.Reading.{Reading}
+use Rattle.text.specs.declared.Reading.the-variants.{Set}
 use Rattle.facts.proofs.show_text.Statement.{statement}
 use Rattle.facts.proofs.show_text.Tie as tie
 
-few-read : (set : Answer Input) {c1 c2 c1′ c2′ : List ℕ} {r : Outcome} {b : Board} {n : ℕ} → Gives set (inColumns set jobsMost jobsMost) c1 c2 r c1′ c2′ → r ≡ Set b n → n ≤ jobsMost
+few-read : (set : Answer Input) {c1 c2 c1′ c2′ : List ℕ} {r : Reading} {b : Board} {n : ℕ} → Gives set (inColumns set jobsMost jobsMost) c1 c2 r c1′ c2′ → r ≡ Set b n → n ≤ jobsMost
 few-read (given i) {b = b} {n} g e =
-    let heads : _≡_ {A = Answer Head} (given (record { board = b; count = n })) (headOf (given i)) = ap saysOutcome (sym e) ∙ g .says in
+    let heads : _≡_ {A = Answer Head} (given (record { board = b; count = n })) (headOf (given i)) = ap saysReading (sym e) ∙ g .says in
     let same : _≡_ {A = Head} (record { board = b; count = n }) (record { board = i .board; count = length (i .jobs) }) = cc in
     omega (arith, ap (λ (h : Head). h .count) same, g .few)
 few-read (refused number place) {b = b} {n} g e =
-    let heads : _≡_ {A = Answer Head} (given (record { board = b; count = n })) (refused number place) = ap saysOutcome (sym e) ∙ g .says in
+    let heads : _≡_ {A = Answer Head} (given (record { board = b; count = n })) (refused number place) = ap saysReading (sym e) ∙ g .says in
     let never : _≡_ {A = ℕ} 0 1 = cc in
     absurd (omega arith)
 

@@ -3,7 +3,7 @@
 use mathlib.Core.Path.{sym, _∙_}
 use borrow.Author.Needs.{needs}
 use Rattle.model.proofs.Columns.{upto-length}
-use Rattle.legal.proofs.Turns.{Passed, turn-window, turn-first, turn-second, turn-jobs, turn-cost, turn-long, turn-given}
+use Rattle.legal.proofs.CheckByCheck.{Passed, turn-window, turn-first, turn-second, turn-jobs, turn-cost, turn-long, turn-given}
 use Rattle.legal.proofs.check.Statement.{statement}
 use Rattle.legal.proofs.check.Tie as tie
 use Rattle.legal.proofs.check.Reads as reads

@@ -8,7 +8,7 @@ use Rattle.model.specs.Columns.{jobsIn}
 use Rattle.model.specs.Limits.{jobsMost, slicesMost}
 use Rattle.split.specs.Shares.{sharesOf}
 use Rattle.split.proofs.Seen.{shares-costs}
-use Rattle.planner.proofs.Moving.{moving-filled}
+use Rattle.planner.proofs.PlanMoves.{moving-filled}
 use Rattle.planner.proofs.moves.Statement.{statement}
 use Rattle.planner.proofs.moves.Tie as tie
 

@@ -5,8 +5,8 @@ use Prim.Native.Nat.{_-_, _≤_}
 use native.Mathlib.Omega.{arith}
 use borrow.Author.Needs.{needs}
 use lib.ListN.{take, replicate}
-use Rattle.planner.specs.Moving.{movesBelow, noMoves}
-use Rattle.planner.proofs.Moving.{below-fill}
+use Rattle.planner.specs.PlanMoves.{movesBelow, noMoves}
+use Rattle.planner.proofs.PlanMoves.{below-fill}
 use Rattle.planner.proofs.moves_below.Statement.{statement}
 use Rattle.planner.proofs.moves_below.Tie as tie
 

@@ -12,7 +12,7 @@ use Rattle.model.specs.Refusal.{given}
 use Rattle.model.proofs.Columns.{upto-length}
 use Rattle.split.specs.Shares.{sharesOf, saysOutcome, rowsOf}
 use Rattle.split.specs.declared.Outcome.{Outcome}
-use Rattle.planner.specs.Place.{TableAsks}
+use Rattle.planner.specs.Packing.{TableAsks}
 use Rattle.planner.proofs.Columned.{enough, put-same, columned-refused, columned-short, columned-plan}
 use Rattle.planner.proofs.Plans.{table-asks}
 use Rattle.planner.proofs.plan_columns.Statement.{statement}

@@ -13,7 +13,7 @@ use Rattle.text.specs.Reader.{lineLength, lineIn, costsSaid}
 use Rattle.text.proofs.Digits.{digits-fit, line-ends}
 use Rattle.text.proofs.Lent.{enough, gives-refused, gives-short, gives-set}
 use Rattle.text.proofs.Lines.{linesOf-at}
-use Rattle.text.proofs.Turns.{Turn, turn-first, turn-last, turn-refused, turn-few, turn-there, turn-more}
+use Rattle.text.proofs.LineByLine.{Turn, turn-first, turn-last, turn-refused, turn-few, turn-there, turn-more}
 use Rattle.text.proofs.reader.read_jobs.Statement.{statement}
 use Rattle.text.proofs.reader.read_jobs.Tie as tie
 

@@ -1,0 +1,84 @@
+-- What a promise of the planning call says to one who reads it: the definition's cases taken apart once, for the pages that state the
+-- demands. Assumes nothing.
+--   counts-are     the counts of an accepted plan are those of the definition's
+--   counts-there   an accepted plan has a share for each job, the rows that it counts are there and are the definition's, and those past
+--                  them are as they were
+--   rows-pair      what every two rows of a plan's table have between them, by their numbers
+--   call-refused   a refusal is the definition's
+use mathlib.Core.Path.{_≡_, refl, ap}
+use mathlib.Core.List.{List}
+use Prim.Native.Nat.{ℕ, _<_}
+use native.Mathlib.Omega.{arith}
+use lib.ListN.{length, take, drop, getD}
+use lib.Seq.{take-append-seam, drop-append-seam, getD-take}
+use Rattle.model.specs.Lists.{Pairs}
+use Rattle.model.specs.Refusal.{Answer, given, refused, saysRefusal}
+use Rattle.model.specs.declared.Board.{Board}
+use Rattle.model.specs.declared.Job.{Job}
+use Rattle.model.specs.declared.Refusal.{Refusal}
+use Rattle.model.specs.declared.Share.{Share}
+use Rattle.model.specs.declared.Slice.{Slice}
+use Rattle.model.proofs.Lists.{pairs-at}
+use Rattle.model.proofs.Splits.{all-done-length}
+use Rattle.planner.specs.Plan.{Plan, Counts, planOf, sharesIn, slicesIn, countsIn, saysPlanned, front}
+use Rattle.planner.specs.Packing.{noSlice}
+use Rattle.planner.specs.Promise.{Promised}
+use Rattle.planner.specs.declared.Planned.the-variants.{Plan as Counted, Refused}
+
+-- ---- the counts
+counts-are : (jobs slices : ℕ) (x : Answer Plan) → saysPlanned (Counted jobs slices) ≡ countsIn x
+    → (jobs ≡ length (sharesIn x)) × (slices ≡ length (slicesIn x))
+counts-are jobs slices (given p) says =
+    let same : _≡_ {A = Counts} (record { jobs = jobs; slices = slices }) (record { jobs = length (p .shares); slices = length (p .slices) }) = cc in
+    (ap (λ (c : Counts). c .jobs) same, ap (λ (c : Counts). c .slices) same)
+counts-are jobs slices (refused number place) says = let z : _≡_ {A = ℕ} 0 1 = cc in absurd (omega arith)
+
+pub record There (board : Board) (js : List Job) (ss ss′ : List Share) (ls ls′ : List Slice) (jobs slices : ℕ) : Type 0 where
+  pub all : jobs ≡ length js
+  pub share-rows : length (take jobs ss′) ≡ jobs
+  pub slice-rows : length (take slices ls′) ≡ slices
+  pub by-rules : planOf board (length js) js (length ss) (length ls) ≡ given (record { shares = take jobs ss′; slices = take slices ls′ })
+  pub shares-past : drop jobs ss′ ≡ drop jobs ss
+  pub slices-past : drop slices ls′ ≡ drop slices ls
+
+-- Rows at the front of a table: those that were counted are the new ones, and the others are the old ones.
+front-rows : {A : Type 0} (new old now : List A) (n : ℕ) → n ≡ length new → now ≡ front new old → (take n now ≡ new) × (drop n now ≡ drop n old)
+front-rows new old now n size is = rw (size, is) (take-append-seam new _, drop-append-seam new _)
+
+plan-of : (ss : List Share) (ls : List Slice) (counts : Counts) (x : Answer Plan) → given counts ≡ countsIn x → ss ≡ sharesIn x → ls ≡ slicesIn x
+    → x ≡ given (record { shares = ss; slices = ls })
+plan-of ss ls counts (given p) says shares slices = rw (shares, slices) refl
+plan-of ss ls counts (refused number place) says shares slices = let z : _≡_ {A = ℕ} 0 1 = cc in absurd (omega arith)
+
+pub counts-there : {board : Board} {js : List Job} {ss ss′ : List Share} {ls ls′ : List Slice} {jobs slices : ℕ}
+    → Promised board js ss ls (Counted jobs slices) ss′ ls′ → There board js ss ss′ ls ls′ jobs slices
+counts-there {board} {js} {ss} {ss′} {ls} {ls′} {jobs} {slices} p =
+    let x = planOf board (length js) js (length ss) (length ls) in
+    let counts = counts-are jobs slices x (p .answer) in
+    let shares = front-rows (sharesIn x) ss ss′ jobs (counts .0) (p .shares) in
+    let rows = front-rows (slicesIn x) ls ls′ slices (counts .1) (p .slices) in
+    record {
+      all = omega (arith, counts .0, ap length (shares .0), all-done-length (board .window) 1 js (take jobs ss′) (p .demand2 .whole .done));
+      share-rows = omega (arith, counts .0, ap length (shares .0));
+      slice-rows = omega (arith, counts .1, ap length (rows .0));
+      by-rules = plan-of (take jobs ss′) (take slices ls′) _ x (p .answer) (shares .0) (rows .0);
+      shares-past = shares .1;
+      slices-past = rows .1;
+    }
+
+pub rows-pair : {board : Board} {js : List Job} {ss ss′ : List Share} {ls ls′ : List Slice} {jobs slices : ℕ}
+    → Promised board js ss ls (Counted jobs slices) ss′ ls′ → (R : Slice → Slice → Type 0) → Pairs R (take slices ls′)
+    → (i k : ℕ) → i < k → k < slices → R (getD ls′ i noSlice) (getD ls′ k noSlice)
+rows-pair {ls′ = ls′} {slices = slices} p R h i k l m =
+    rw (getD-take slices ls′ i noSlice (omega arith), getD-take slices ls′ k noSlice m) at
+    (pairs-at R noSlice (take slices ls′) i k l (omega (arith, counts-there p .slice-rows)) h)
+
+-- ---- the refusals
+-- A refusal is the one that the definition of the plan gives.
+pub call-refused : {board : Board} {js : List Job} {ss ss′ : List Share} {ls ls′ : List Slice} {r : Refusal}
+    → Promised board js ss ls (Refused r) ss′ ls′ → planOf board (length js) js (length ss) (length ls) ≡ saysRefusal r
+call-refused {board} {js} {ss} {ss′} {ls} {ls′} {r} p = go (planOf board (length js) js (length ss) (length ls)) (p .answer)
+  where
+    go : (x : Answer Plan) → saysPlanned (Refused r) ≡ countsIn x → x ≡ saysRefusal r
+    go (given q) says = let z : _≡_ {A = ℕ} 0 1 = cc in absurd (omega arith)
+    go (refused number place) says = cc

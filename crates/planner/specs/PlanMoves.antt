@@ -1,0 +1,46 @@
+-- The moves of a planned set: document 01, "Moves". A refused set gets its refusal instead.
+--   movesBelow   the moves of each job below n, in order
+--   movesIn      the moves of each job of a plan: none where the set is refused
+--   outers, inners   the outer moves of all jobs together, and the inner ones
+--   noMoves      what stands in rows that are not used
+--   roomyPlan    the plan of a set, for tables that are long enough for every set
+--   MovesPromised       what the call for moves promises: what the planning call answers, and every row
+-- Assumes nothing.
+use mathlib.Core.List.{List, [], _∷_, _++_}
+use mathlib.Core.Path.{_≡_}
+use Prim.Native.Nat.{ℕ, zero, suc, _-_}
+use lib.ListN.{length, replicate}
+use Rattle.model.specs.Limits.{jobsMost, slicesMost}
+use Rattle.model.specs.Lists.{sumOf}
+use Rattle.model.specs.Refusal.{Answer, given, refused}
+use Rattle.model.specs.declared.Board.{Board}
+use Rattle.model.specs.declared.Job.{Job}
+use Rattle.model.specs.declared.Slice.{Slice}
+use Rattle.slices.specs.Moves.{movesOf}
+use Rattle.slices.specs.declared.Moves.{Moves}
+use Rattle.planner.specs.Plan.{Plan, planOf, countsIn, saysPlanned}
+use Rattle.planner.specs.declared.PlannedMoves.{PlannedMoves}
+
+unfoldable pub movesBelow : List Slice → ℕ → List Moves
+movesBelow rows zero = []
+movesBelow rows (suc n) = movesBelow rows n ++ (movesOf rows n ∷ [])
+
+abbrev pub movesIn : Answer Plan → List Moves
+movesIn (given p) = movesBelow (p .slices) (length (p .shares))
+movesIn (refused number place) = []
+
+abbrev pub outers : List Moves → ℕ
+outers ms = sumOf (λ (m : Moves). m .outer) ms
+
+abbrev pub inners : List Moves → ℕ
+inners ms = sumOf (λ (m : Moves). m .inner) ms
+
+abbrev pub noMoves : Moves
+noMoves = record { outer = 0; inner = 0 }
+
+abbrev pub roomyPlan : Board → ℕ → List Job → Answer Plan
+roomyPlan board n js = planOf board n js jobsMost slicesMost
+
+pub record MovesPromised (board : Board) (n : ℕ) (js : List Job) (r : PlannedMoves) : Type 0 where
+  pub says : saysPlanned (r .planned) ≡ countsIn (roomyPlan board n js)
+  pub moves : r .moves ≡ movesIn (roomyPlan board n js) ++ replicate (jobsMost - length (movesIn (roomyPlan board n js))) noMoves

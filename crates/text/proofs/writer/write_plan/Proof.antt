@@ -1,0 +1,102 @@
+-- `text::writer::write_plan` meets its contract: the lines of the counts, of the shares and of the slices are the plan's text, and as long as
+-- was tested. Assumes nothing.
+use Rattle.model.specs.Columns.{sharesIn}
+use Rattle.model.specs.Packed.{slicesIn}
+use Rattle.model.proofs.Columns.{upto-length}
+use Rattle.text.proofs.PlanText.{plan-length, plan-stored}
+use Rattle.text.proofs.Stores.{too-short, all-written}
+use borrow.Author.Needs.{needs}
+use Rattle.text.proofs.writer.write_plan.Statement.{statement}
+use Rattle.text.proofs.writer.write_plan.Tie as tie
+
+at-most-requires : tie.Need-at-most-requires
+at-most-requires c κs = search needs
+
+at-most-requires-2 : tie.Need-at-most-requires-2
+at-most-requires-2 c κs = search needs
+
+mul-after-shares : tie.Need-mul-after-shares
+mul-after-shares c = search needs
+
+add-after-shares : tie.Need-add-after-shares
+add-after-shares c = search needs
+
+mul-size : tie.Need-mul-size
+mul-size c = search needs
+
+add-size : tie.Need-add-size
+add-size c = search needs
+
+returns : tie.Need-returns
+returns c =
+    let rows-most = c .before in
+    let jobs-most = rows-most .before in
+    let a = jobs-most .before .before .args in
+    let j = jobs-most .at-most .result in
+    let r = rows-most .at-most2 .result in
+    rw (← jobs-most .at-most .ensures, ← rows-most .at-most2 .ensures)
+    (too-short _ _ _ (plan-length (sharesIn j (a .first .now) (a .second .now)) (slicesIn r (a .slices .now)) j r (upto-length j _) (upto-length r _)) (c .if1 .taken))
+
+cast-t16 : tie.Need-cast-t16
+cast-t16 c = search needs
+
+cast-t17 : tie.Need-cast-t17
+cast-t17 c = search needs
+
+slice-aggregate-put-line : tie.Need-slice-aggregate-put-line
+slice-aggregate-put-line c = search needs
+
+put-line-requires : tie.Need-put-line-requires
+put-line-requires c κs = search needs
+
+put-shares-requires : tie.Need-put-shares-requires
+put-shares-requires c κs = search needs
+
+put-slices-requires : tie.Need-put-slices-requires
+put-slices-requires c κs = search needs
+
+same-length : tie.Need-same-length
+same-length c = search needs
+
+returns-2 : tie.Need-returns-2
+returns-2 c =
+    let rows-put = c .before .before in
+    let shares-put = rows-put .before .before .before .before in
+    let counts-put = shares-put .before .before .before .before in
+    let tested = counts-put .before .before .before in
+    let rows-most = tested .before in
+    let jobs-most = rows-most .before in
+    let a = jobs-most .before .before .args in
+    let j = jobs-most .at-most .result in
+    let r = rows-most .at-most2 .result in
+    let ss = sharesIn j (a .first .now) (a .second .now) in
+    let rows = slicesIn r (a .slices .now) in
+    rw (
+      ← jobs-most .at-most .ensures,
+      ← rows-most .at-most2 .ensures,
+      rows-put .put-slices .ensures,
+      shares-put .put-shares .ensures,
+      counts-put .put-line .ensures,
+      plan-stored ss rows j r (upto-length j _) (upto-length r _),
+    )
+    (all-written _ _ _ (plan-length ss rows j r (upto-length j _) (upto-length r _)) (tested .if1 .left))
+
+pub write-plan-spec : {M : Type 1} → statement M
+write-plan-spec =
+    tie.close
+    (tie.spec
+    at-most-requires
+    at-most-requires-2
+    mul-after-shares
+    add-after-shares
+    mul-size
+    add-size
+    returns
+    cast-t16
+    cast-t17
+    slice-aggregate-put-line
+    put-line-requires
+    put-shares-requires
+    put-slices-requires
+    same-length
+    returns-2)
