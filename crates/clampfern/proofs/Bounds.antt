@@ -8,17 +8,17 @@ use native.Mathlib.Omega.{arith}
 use lib.ListN.{length}
 use Rattle.model.specs.Board.{coresOf}
 use Rattle.model.specs.Limits.{windowMost, coresMost, jobsMost, slicesMost}
-use Rattle.model.specs.Lists.{All}
+use Rattle.rows.specs.Lists.{All}
+use Rattle.rows.proofs.Lists.{all-map}
 use Rattle.model.specs.Packed.{Narrow}
 use Rattle.model.specs.Refusal.{given}
 use Rattle.model.specs.Timetable.{Inside}
+use Rattle.model.specs.Split.{Ticks}
 use Rattle.model.specs.declared.Kind.{Kind}
 use Rattle.model.specs.declared.Kind.the-variants.{First, Second}
 use Rattle.model.specs.declared.Board.{Board}
 use Rattle.model.specs.declared.Job.{Job}
-use Rattle.model.specs.declared.Share.{Share}
 use Rattle.model.specs.declared.Slice.{Slice}
-use Rattle.model.proofs.Lists.{all-map}
 use Rattle.model.proofs.Splits.{all-done-length}
 use Rattle.legal.specs.Lawful.{Lawful}
 use Rattle.planner.specs.Plan.{Plan, planOf}
@@ -27,7 +27,7 @@ use Rattle.planner.proofs.Plans.{plan-shares, plan-kept, shares-lawful, shares-
 pub record Small (p : Plan) : Type 0 where
   pub few-jobs : length (p .shares) ≤ jobsMost
   pub few-slices : length (p .slices) ≤ slicesMost
-  pub each-share : All (λ (s : Share). s .first .0 + s .second .0 ≤ windowMost) (p .shares)
+  pub each-share : All (λ (s : Ticks). s .first + s .second ≤ windowMost) (p .shares)
   pub each-slice : All (λ (s : Slice). (s .job < 64) × (s .core < 8) × (s .start + s .length ≤ windowMost)) (p .slices)
 
 module _ (board : Board) (js : List Job) (m k : ℕ) {p : Plan} (is : planOf board (length js) js m k ≡ given p) where
@@ -41,7 +41,7 @@ module _ (board : Board) (js : List Job) (m k : ℕ) {p : Plan} (is : planOf boa
       record {
         few-jobs = omega (arith, law .few);
         few-slices = omega (arith, kept .few, law .few, law .first-most, law .second-most);
-        each-share = all-map (λ (s : Share). s .first .0 + s .second .0 ≤ board .window) _ (λ s h. omega (arith, law .window-most)) (p .shares) (fits .each);
+        each-share = all-map (λ (s : Ticks). s .first + s .second ≤ board .window) _ (λ s h. omega (arith, law .window-most)) (p .shares) (fits .each);
         each-slice = all-map (Inside board (length (p .shares))) _ (λ s h. inside law size s h) (p .slices) (kept .timetable .inside);
       }
     where

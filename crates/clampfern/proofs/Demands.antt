@@ -13,18 +13,18 @@ use native.Mathlib.Omega.{arith}
 use lib.ListN.{length, take, drop, getD}
 use lib.Seq.{take-append-seam, drop-append-seam}
 use Rattle.model.specs.Board.{roomOf}
+use Rattle.model.specs.Empty.{noJob, noSlice}
 use Rattle.model.specs.Limits.{jobsMost, slicesMost}
 use Rattle.model.specs.Movers.{movers, unevens}
 use Rattle.model.specs.Refusal.{Answer, given, refused, andThen}
-use Rattle.model.specs.Split.{share, ticksOn, DoneBy, Split}
+use Rattle.model.specs.Split.{Ticks, share, ticksOn, DoneBy, Split}
 use Rattle.model.specs.Timetable.{Runs, SameCore, Inside, ticksIn}
 use Rattle.model.specs.declared.Kind.{Kind}
 use Rattle.model.specs.declared.Kind.the-variants.{First, Second}
 use Rattle.model.specs.declared.Board.{Board}
 use Rattle.model.specs.declared.Job.{Job}
-use Rattle.model.specs.declared.Share.{Share}
 use Rattle.model.specs.declared.Slice.{Slice}
-use Rattle.model.proofs.Lists.{all-at, pairs-at}
+use Rattle.rows.proofs.Lists.{all-at, pairs-at}
 use Rattle.model.proofs.Splits.{all-done-length, all-done-at}
 use Rattle.legal.specs.Legal.{legalOf}
 use Rattle.slices.specs.Table.{tableOf}
@@ -35,9 +35,8 @@ use Rattle.text.specs.Hex.{Maybe, none, some}
 use Rattle.text.specs.Input.{Input, inputOf}
 use Rattle.text.specs.Output.{answerMost, Writes}
 use Rattle.text.specs.declared.Written.the-variants.{Bytes}
-use Rattle.planner.specs.Packing.{noSlice}
 use Rattle.planner.specs.Plan.{Plan, countsIn}
-use Rattle.planner.specs.Promise.{noJob, GoodPlan}
+use Rattle.planner.specs.Promise.{GoodPlan}
 use Rattle.planner.proofs.Lent.{plan-room}
 use Rattle.planner.proofs.Plans.{plan-shares, plan-kept}
 use Rattle.clampfern.specs.Answer.{planned, answerText, Entered, Answered}
@@ -152,7 +151,7 @@ module _ (asked : List ℕ) {bytes : List ℕ} (answer : bytes ≡ answerText as
       abbrev row : ℕ → Slice
       row i = getD (p .slices) i noSlice
 
-      abbrev shareOf : ℕ → Share
+      abbrev shareOf : ℕ → Ticks
       shareOf j = getD (p .shares) j (share 0 0)
 
       -- Each job gets its whole work: its share, in whole ticks, does it,

@@ -13,12 +13,11 @@ use Rattle.model.specs.Columns.{jobsIn, seen, sharesIn as sharesFrom}
 use Rattle.model.specs.Limits.{jobsMost, slicesMost}
 use Rattle.model.specs.Packed.{packOf, slicesIn as slicesFrom}
 use Rattle.model.specs.Refusal.{Answer, given, refused, andThen, numberOf, placeOf}
-use Rattle.model.specs.Split.{ticksOn}
+use Rattle.model.specs.Split.{Ticks, ticksOn}
 use Rattle.model.specs.declared.Kind.the-variants.{First, Second}
 use Rattle.model.specs.declared.Board.{Board}
 use Rattle.model.specs.declared.Job.{Job}
 use Rattle.model.specs.declared.Refusal.{Refusal}
-use Rattle.model.specs.declared.Share.{Share}
 use Rattle.model.proofs.Columns.{costs-back}
 use Rattle.slices.specs.Table.{tableOf}
 use Rattle.split.specs.Shares.{sharesOf}
@@ -28,7 +27,8 @@ use Rattle.text.specs.Output.{planText, refusedText, refusalText, Writes}
 use Rattle.text.specs.declared.Reading.{Reading}
 use Rattle.text.specs.declared.Reading.the-variants.{Set, Refused as Unread}
 use Rattle.text.specs.declared.Written.{Written}
-use Rattle.planner.specs.Plan.{Plan, Counts, fitted, planOf, columnsOf, sharesIn, slicesIn, countsIn, saysPlanned, front}
+use Rattle.planner.specs.Plan.{Plan, Counts, fitted, planOf, columnsOf, sharesIn, slicesIn, countsIn, saysPlanned}
+use Rattle.rows.specs.Lists.{front}
 use Rattle.planner.specs.Promise.{Columned}
 use Rattle.planner.specs.declared.Planned.{Planned}
 use Rattle.planner.specs.declared.Planned.the-variants.{Plan as Counted, Refused}
@@ -55,11 +55,11 @@ module _ (board : Board) (js : List Job) where
   columns-plan : columnsOf board (length js) js jobsMost jobsMost slicesMost ≡ plan
   columns-plan = go (sharesOf board (length js) js) refl
     where
-      made : List Share → Plan
+      made : List Ticks → Plan
       made ss = record { shares = ss; slices = tableOf (board .window) ss }
 
-      go : (x : Answer (List Share)) → sharesOf board (length js) js ≡ x
-          → andThen x (λ (ss : List Share). given (made ss)) ≡ andThen x (λ (ss : List Share). fitted jobsMost slicesMost (made ss))
+      go : (x : Answer (List Ticks)) → sharesOf board (length js) js ≡ x
+          → andThen x (λ (ss : List Ticks). given (made ss)) ≡ andThen x (λ (ss : List Ticks). fitted jobsMost slicesMost (made ss))
       go (given ss) is =
           let asks = table-asks board (length js) js refl is in
           rw (le-ltb jobsMost (length ss) (asks .few), le-ltb slicesMost (length (tableOf (board .window) ss)) (asks .rows))
@@ -98,7 +98,7 @@ module _ (board : Board) (js : List Job) where
 -- ---- what was read
 plan-seen : (board : Board) (n : ℕ) (js : List Job) (m k : ℕ) → planOf board n (map seen js) m k ≡ planOf board n js m k
 plan-seen board n js m k =
-    ap (λ (x : Answer (List Share)). andThen x (λ (ss : List Share). fitted m k (record { shares = ss; slices = tableOf (board .window) ss }))) (shares-seen board n js)
+    ap (λ (x : Answer (List Ticks)). andThen x (λ (ss : List Ticks). fitted m k (record { shares = ss; slices = tableOf (board .window) ss }))) (shares-seen board n js)
 
 pub drop-replicate : (n m x : ℕ) → drop n (replicate m x) ≡ replicate (m - n) x
 drop-replicate zero m x = simp unary-clauses

@@ -10,22 +10,22 @@ use native.Mathlib.Omega.{arith}
 use lib.ListN.{length}
 use Rattle.model.specs.Board.{on}
 use Rattle.model.specs.Limits.{windowMost}
-use Rattle.model.specs.Lists.{All}
+use Rattle.rows.specs.Lists.{All}
+use Rattle.rows.proofs.Lists.{all-map, all-append}
 use Rattle.model.specs.Refusal.{given}
+use Rattle.model.specs.Split.{Ticks}
 use Rattle.model.specs.declared.Kind.{Kind}
 use Rattle.model.specs.declared.Kind.the-variants.{First, Second}
 use Rattle.model.specs.declared.Board.{Board}
 use Rattle.model.specs.declared.Job.{Job}
-use Rattle.model.specs.declared.Share.{Share}
 use Rattle.model.specs.declared.Slice.{Slice}
-use Rattle.model.proofs.Lists.{all-map, all-append}
 use Rattle.text.specs.Hex.{some, linesOf, bytesOf, two, numberIn}
 use Rattle.text.specs.Output.{shareRecords, sliceRecord, planRecords, planText}
 use Rattle.text.proofs.RoundTrip.{IsRecord, read-back, two-back}
 use Rattle.planner.specs.Plan.{Plan, planOf}
 use Rattle.clampfern.proofs.Bounds.{Small, small}
 
-shares-records : (i : ℕ) (ss : List Share) → i + length ss ≤ 256 → All IsRecord (shareRecords i ss)
+shares-records : (i : ℕ) (ss : List Ticks) → i + length ss ≤ 256 → All IsRecord (shareRecords i ss)
 unfolding shareRecords
 shares-records i [] few = tt
 shares-records i (s ∷ ss) few = (omega arith, shares-records (i + 1) ss (omega arith))
@@ -54,11 +54,11 @@ module _ (board : Board) (js : List Job) (m k : ℕ) {p : Plan} (is : planOf boa
   pub plan-back : map bytesOf (linesOf (planText (p .shares) (p .slices))) ≡ map (λ (r : List ℕ). some r) (planRecords (p .shares) (p .slices))
   plan-back = read-back (planRecords (p .shares) (p .slices)) plan-records
 
-  pub plan-numbers : All (λ (s : Share). (numberIn (two (s .first .0)) ≡ s .first .0) × (numberIn (two (s .second .0)) ≡ s .second .0)) (p .shares)
+  pub plan-numbers : All (λ (s : Ticks). (numberIn (two (s .first)) ≡ s .first) × (numberIn (two (s .second)) ≡ s .second)) (p .shares)
       × All (λ (s : Slice). (numberIn (two (s .start)) ≡ s .start) × (numberIn (two (s .length)) ≡ s .length)) (p .slices)
   plan-numbers = (
-    all-map (λ (s : Share). s .first .0 + s .second .0 ≤ windowMost) _
-        (λ s h. (two-back (s .first .0) (omega arith), two-back (s .second .0) (omega arith))) (p .shares) (within .each-share),
+    all-map (λ (s : Ticks). s .first + s .second ≤ windowMost) _
+        (λ s h. (two-back (s .first) (omega arith), two-back (s .second) (omega arith))) (p .shares) (within .each-share),
     all-map (λ (s : Slice). (s .job < 64) × (s .core < 8) × (s .start + s .length ≤ windowMost)) _
         (λ s h. (two-back (s .start) (omega arith), two-back (s .length) (omega arith))) (p .slices) (within .each-slice),
   )

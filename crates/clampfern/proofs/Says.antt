@@ -9,13 +9,13 @@ use native.Mathlib.Omega.{arith}
 use borrow.Author.Tests.{eq-eqb}
 use lib.ListN.{length, length-append, length-map}
 use lib.Seq.{take-at, drop-at}
-use Rattle.model.specs.Lists.{All}
+use Rattle.rows.specs.Lists.{All}
 use Rattle.model.specs.Refusal.{given, refused}
+use Rattle.model.specs.Split.{Ticks}
 use Rattle.model.specs.declared.Kind.{Kind}
 use Rattle.model.specs.declared.Kind.the-variants.{First, Second}
 use Rattle.model.specs.declared.Board.{Board}
 use Rattle.model.specs.declared.Job.{Job}
-use Rattle.model.specs.declared.Share.{Share}
 use Rattle.model.specs.declared.Slice.{Slice}
 use Rattle.text.specs.Hex.{some, linesOf, bytesOf, two, numberFrom, numberIn}
 use Rattle.text.specs.Output.{shareRecord, shareRecords, sliceRecord, planRecords, planText, refusedText, refusedRecords}
@@ -39,19 +39,19 @@ unfolding saidOf
 said-records text rs back = rw (back, all-read rs)
 
 -- ---- the shares and the slices
-share-said : (job : ℕ) (s : Share) → numberIn (two (s .first .0)) ≡ s .first .0 → numberIn (two (s .second .0)) ≡ s .second .0
+share-said : (job : ℕ) (s : Ticks) → numberIn (two (s .first)) ≡ s .first → numberIn (two (s .second)) ≡ s .second
     → shareIn job (shareRecord job s) ≡ some s
 unfolding shareIn
 share-said job s first second = rw (one-back 17, one-back job, eq-eqb job job refl, first, second)
 
-shares-said : (job : ℕ) (ss : List Share)
-    → All (λ (s : Share). (numberIn (two (s .first .0)) ≡ s .first .0) × (numberIn (two (s .second .0)) ≡ s .second .0)) ss
-    → sharesFrom job (shareRecords job ss) ≡ map (λ (s : Share). some s) ss
+shares-said : (job : ℕ) (ss : List Ticks)
+    → All (λ (s : Ticks). (numberIn (two (s .first)) ≡ s .first) × (numberIn (two (s .second)) ≡ s .second)) ss
+    → sharesFrom job (shareRecords job ss) ≡ map (λ (s : Ticks). some s) ss
 unfolding sharesFrom shareRecords
 shares-said job [] whole = refl
 shares-said job (s ∷ ss) whole = rw (share-said job s (whole .0 .0) (whole .0 .1), shares-said (job + 1) ss (whole .1))
 
-shares-length : (job : ℕ) (ss : List Share) → length (shareRecords job ss) ≡ length ss
+shares-length : (job : ℕ) (ss : List Ticks) → length (shareRecords job ss) ≡ length ss
 unfolding shareRecords
 shares-length job [] = refl
 shares-length job (s ∷ ss) = rw (shares-length (job + 1) ss)
@@ -73,7 +73,7 @@ module _ (board : Board) (js : List Job) (m k : ℕ) {p : Plan} (is : planOf boa
   pub plan-said : saidOf (planText (p .shares) (p .slices)) ≡ some (given p)
   unfolding recordsSay planIn
   plan-said =
-      let ss : List Share = p .shares in
+      let ss : List Ticks = p .shares in
       let rows : List Slice = p .slices in
       let numbers = plan-numbers board js m k is in
       let rs : List (List ℕ) = shareRecords 0 ss ++ map sliceRecord rows in

@@ -12,7 +12,8 @@ use Rattle.model.specs.Split.{share}
 use Rattle.model.specs.declared.Kind.{Kind}
 use Rattle.model.specs.declared.Kind.the-variants.{First, Second}
 use Rattle.model.specs.declared.Slice.{Slice}
-use Rattle.legal.specs.Legal.{lowest, legalOf}
+use Rattle.legal.specs.Legal.{legalOf}
+use Rattle.rows.specs.Lists.{lowest}
 use Rattle.split.specs.Home.{atHome, keepOf, giveOf}
 use Rattle.split.specs.Steps.{better, nextFrom, movedOf, stepOf, stepsOf}
 use Rattle.split.specs.Shares.{settled, byOver}

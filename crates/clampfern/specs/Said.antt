@@ -14,10 +14,9 @@ use Prim.Native.Nat.{ℕ, _+_}
 use lib.Dec.{eqb}
 use lib.ListN.{length, take, drop}
 use Rattle.model.specs.Refusal.{Answer, given, refused}
-use Rattle.model.specs.Split.{share}
+use Rattle.model.specs.Split.{Ticks, share}
 use Rattle.model.specs.declared.Kind.{Kind}
 use Rattle.model.specs.declared.Kind.the-variants.{First, Second}
-use Rattle.model.specs.declared.Share.{Share}
 use Rattle.model.specs.declared.Slice.{Slice}
 use Rattle.text.specs.Hex.{Maybe, none, some, linesOf, bytesOf, numberIn}
 use Rattle.planner.specs.Plan.{Plan}
@@ -37,10 +36,10 @@ abbrev pub isA : (tag size : ℕ) → List ℕ → Bool
 isA tag size r = eqb (field 0 1 r) tag && eqb (length r) size
 
 -- 11: the job, its ticks on the first kind and on the second.
-unfoldable pub shareIn : ℕ → List ℕ → Maybe Share
+unfoldable pub shareIn : ℕ → List ℕ → Maybe Ticks
 shareIn job r = cond (isA 17 6 r && eqb (field 1 1 r) job) (some (share (field 2 2 r) (field 4 2 r))) none
 
-unfoldable pub sharesFrom : ℕ → List (List ℕ) → List (Maybe Share)
+unfoldable pub sharesFrom : ℕ → List (List ℕ) → List (Maybe Ticks)
 sharesFrom job [] = []
 sharesFrom job (r ∷ rs) = shareIn job r ∷ sharesFrom (job + 1) rs
 
@@ -56,7 +55,7 @@ sliceIn r =
 unfoldable pub planIn : (jobs slices : ℕ) → List (List ℕ) → Maybe (Answer Plan)
 planIn jobs slices rs =
     cond (eqb (length rs) (jobs + slices))
-    (thenRead (allRead (sharesFrom 0 (take jobs rs))) (λ (ss : List Share). thenRead (allRead (map sliceIn (drop jobs rs)))
+    (thenRead (allRead (sharesFrom 0 (take jobs rs))) (λ (ss : List Ticks). thenRead (allRead (map sliceIn (drop jobs rs)))
     (λ (rows : List Slice). some (given (record { shares = ss; slices = rows })))))
     none
 

@@ -16,7 +16,7 @@ use lib.ListN.{length, take}
 use lib.Seq.{length-take-le}
 use Rattle.model.specs.Columns.{jobAt, jobsIn, costs, seen, second, both}
 use Rattle.model.specs.Limits.{costMost, jobsMost}
-use Rattle.model.specs.Lists.{All}
+use Rattle.rows.specs.Lists.{All, lowest}
 use Rattle.model.specs.Refusal.{given}
 use Rattle.model.specs.declared.Board.{Board}
 use Rattle.model.specs.declared.Kind.the-variants.{First, Second}
@@ -24,7 +24,7 @@ use Rattle.model.specs.declared.Job.{Job}
 use Rattle.model.specs.declared.Job.the-variants.{Both, OnlyFirst, OnlySecond}
 use Rattle.model.proofs.Columns.{costs-back}
 use Rattle.legal.specs.Lawful.{LegalJob}
-use Rattle.legal.specs.Legal.{outside, failsOf, lowest, legalOf}
+use Rattle.legal.specs.Legal.{outside, failsOf, legalOf}
 use Rattle.legal.specs.declared.Test.{Test}
 use Rattle.legal.specs.declared.Test.the-variants.{Cost, Long}
 use Rattle.legal.proofs.Lawful.{legal-lawful}

@@ -3,7 +3,8 @@ ghost use mathlib.Core.Path.{_≡_};
 ghost use Prim.Native.Nat.{_≤_};
 ghost use Rattle.model.specs.Columns.{jobAt, jobsIn};
 ghost use Rattle.model.specs.Limits.{jobsMost};
-ghost use Rattle.legal.specs.Legal.{outside, badCost, tooLong, failsOf, lowest, legalOf, saysChecked};
+ghost use Rattle.legal.specs.Legal.{outside, badCost, tooLong, failsOf, legalOf, saysChecked};
+ghost use Rattle.rows.specs.Lists.{lowest};
 use model::Board;
 use model::CORES_MOST;
 use model::COST_MOST;
@@ -115,11 +116,11 @@ pub fn check(board: Board, first: &[u32; JOBS_MOST], second: &[u32; JOBS_MOST], 
     }
     let bad = lowest_failing(Test::Cost, w, first, second, n);
     if bad < n {
-        return Checked::Refused(Refusal::Cost(bad as u8));
+        return Checked::Refused(Refusal::Cost(bad as u32));
     }
     let long = lowest_failing(Test::Long, w, first, second, n);
     if long < n {
-        return Checked::Refused(Refusal::TooLong(long as u8));
+        return Checked::Refused(Refusal::TooLong(long as u32));
     }
     Checked::Legal
 }

@@ -21,14 +21,13 @@ use Rattle.model.specs.Board.{coresOf, roomOf}
 use Rattle.model.specs.Columns.{jobAt, jobsIn, costOn, seen, first, second, both}
 use Rattle.model.specs.Packed.{packOf, sliceIn}
 use Rattle.model.specs.Movers.{isMover, isEven, movers, unevens}
-use Rattle.model.specs.Split.{share, ticksOn, DoneBy, AllDone, ticksOf, Split, WholeSplit}
+use Rattle.model.specs.Split.{Ticks, share, ticksOn, DoneBy, AllDone, ticksOf, Split, WholeSplit}
 use Rattle.model.specs.Timetable.{Runs, Apart, SameCore, Inside, ticksIn, Timetable}
 use Rattle.model.specs.declared.Kind.{Kind}
 use Rattle.model.specs.declared.Kind.the-variants.{First, Second}
 use Rattle.model.specs.declared.Board.{Board}
 use Rattle.model.specs.declared.Job.{Job}
 use Rattle.model.specs.declared.Job.the-variants.{Both, OnlyFirst, OnlySecond}
-use Rattle.model.specs.declared.Share.{Share}
 use Rattle.model.specs.declared.Slice.{Slice}
 
 abbrev pub board : ℕ → ℕ → Board
@@ -123,7 +122,7 @@ same-core-kind-not same = let z : _≡_ {A = ℕ} 0 1 = cc in omega arith
 abbrev rows : List Slice
 rows = row 0 First 0 0 4 ∷ row 1 First 0 4 6 ∷ row 0 Second 0 4 6 ∷ row 1 Second 0 0 4 ∷ []
 
-abbrev Full : Board → List Share → Type 0
+abbrev Full : Board → List Ticks → Type 0
 Full b ss = Timetable b ss rows
 
 -- A tick too few or too many, for each of the two jobs, on each kind.
@@ -163,7 +162,7 @@ rows-past-the-window-not t = omega arith
 
 -- The first and the last row have tick 4 in common and nothing else is wrong: two jobs on one core, a job on two cores of a kind, and a
 -- job on two kinds.
-abbrev Meeting : (s t : Share) (job : ℕ) → Kind → (core : ℕ) → Type 0
+abbrev Meeting : (s t : Ticks) (job : ℕ) → Kind → (core : ℕ) → Type 0
 Meeting s t job kind core = Timetable (board 2 1) (s ∷ t ∷ []) (row 0 First 0 0 5 ∷ row 1 Second 0 9 1 ∷ row job kind core 4 4 ∷ [])
 
 pub runs-five : Runs (row 0 First 0 0 5) 4
@@ -286,7 +285,7 @@ done-many-not d = omega arith
 abbrev two : List Job
 two = F 10 ∷ S 10 ∷ []
 
-abbrev theirs : List Share
+abbrev theirs : List Ticks
 theirs = share 10 0 ∷ share 0 10 ∷ []
 
 pub whole-full : WholeSplit 10 10 10 two theirs
@@ -306,11 +305,11 @@ split-full = record { whole = 1; some = omega arith; shares = theirs; done = ome
 
 -- The one share of a set of one job.
 one-share : {w room1 room2 : ℕ} {j : Job} (s : Split w room1 room2 (j ∷ []))
-    → (t : Share) × DoneBy w (s .whole) j t × (ticksOf First (s .shares) ≡ t .first .0) × (ticksOf Second (s .shares) ≡ t .second .0)
+    → (t : Ticks) × DoneBy w (s .whole) j t × (ticksOf First (s .shares) ≡ t .first) × (ticksOf Second (s .shares) ≡ t .second)
 one-share {w} {j = j} s = go (s .shares) (s .done)
   where
-    go : (ss : List Share) → AllDone w (s .whole) (j ∷ []) ss
-        → (t : Share) × DoneBy w (s .whole) j t × (ticksOf First ss ≡ t .first .0) × (ticksOf Second ss ≡ t .second .0)
+    go : (ss : List Ticks) → AllDone w (s .whole) (j ∷ []) ss
+        → (t : Ticks) × DoneBy w (s .whole) j t × (ticksOf First ss ≡ t .first) × (ticksOf Second ss ≡ t .second)
     go [] d = absurd d
     go (t ∷ []) d = (t, d .0, omega arith, omega arith)
     go (t ∷ u ∷ ss) d = absurd (d .1)
@@ -333,7 +332,7 @@ pub split-halves : Split 2 1 3 halves
 split-halves =
     record { whole = 2; some = omega arith; shares = share 1 3 ∷ share 1 3 ∷ []; done = omega arith; within1 = omega arith; within2 = omega arith }
 
-pub whole-halves-not : (ss : List Share) → WholeSplit 2 1 3 halves ss → ⊥
+pub whole-halves-not : (ss : List Ticks) → WholeSplit 2 1 3 halves ss → ⊥
 whole-halves-not [] s = s .done
 whole-halves-not (a ∷ []) s = s .done .1
 whole-halves-not (a ∷ b ∷ []) s = omega arith

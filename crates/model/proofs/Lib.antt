@@ -1,10 +1,8 @@
 pub mod BothSides
 pub mod Columns
 pub mod Determined
-pub mod Fields
-pub mod Lists
 pub mod Movers
 pub mod Packed
 pub mod Product
+pub mod ShareRow
 pub mod Splits
-pub mod Walk

@@ -1,7 +1,4 @@
--- Columns of numbers, in which the calls between our crates pass jobs and shares, and the jobs and shares that they are. A column is read by `at`,
--- which has 0 past a column's end; no call looks there.
---   upto       the list of a function's values at 0 to n - 1
---   at         what a column has at a place
+-- Columns of numbers, in which the calls between our crates pass jobs and shares, and the jobs and shares that they are.
 --   jobAt      a job of its two costs, with 0 where a kind is not allowed; jobsIn, of columns
 --   costOn     what a column has of a job: its cost on the kind, and 0 where it is not allowed there or where its other cost is 0
 --   costs      the column of a kind: a cost for each job, and 0 behind
@@ -12,24 +9,17 @@
 -- nothing. Refusal 4 refuses both at the same place, and every other job is the one that its columns say (crate legal, proofs/Seen.antt).
 -- Assumes nothing.
 use mathlib.Core.Bool.{cond}
-use mathlib.Core.List.{List, [], _∷_, _++_, map}
-use Prim.Native.Nat.{ℕ, zero, suc, _-_}
+use mathlib.Core.List.{List, _++_, map}
+use Prim.Native.Nat.{ℕ, _-_}
 use lib.Dec.{eqb}
-use lib.ListN.{length, getD, replicate}
+use lib.ListN.{length, replicate}
+use Rattle.rows.specs.Upto.{upto, at}
 use Rattle.model.specs.Limits.{jobsMost}
-use Rattle.model.specs.Split.{share, ticksOn}
+use Rattle.model.specs.Split.{Ticks, share, ticksOn}
 use Rattle.model.specs.declared.Kind.{Kind}
 use Rattle.model.specs.declared.Kind.the-variants.{First, Second}
 use Rattle.model.specs.declared.Job.{Job}
 use Rattle.model.specs.declared.Job.the-variants.{Both, OnlyFirst, OnlySecond}
-use Rattle.model.specs.declared.Share.{Share}
-
-abbrev pub upto : {A : Type 0} → ℕ → (ℕ → A) → List A
-upto zero f = []
-upto (suc n) f = f 0 ∷ upto n (λ i. f (suc i))
-
-abbrev pub at : List ℕ → ℕ → ℕ
-at xs i = getD xs i 0
 
 abbrev pub first : ℕ → Job
 first a = OnlyFirst (record { 0 = a })
@@ -61,8 +51,8 @@ costs k js = map (costOn k) js ++ replicate (jobsMost - length js) 0
 abbrev pub seen : Job → Job
 seen j = jobAt (costOn First j) (costOn Second j)
 
-abbrev pub sharesIn : ℕ → (s1 s2 : List ℕ) → List Share
+abbrev pub sharesIn : ℕ → (s1 s2 : List ℕ) → List Ticks
 sharesIn n s1 s2 = upto n (λ i. share (at s1 i) (at s2 i))
 
-abbrev pub ticks : Kind → List Share → List ℕ
+abbrev pub ticks : Kind → List Ticks → List ℕ
 ticks k ss = map (ticksOn k) ss ++ replicate (jobsMost - length ss) 0

@@ -1,8 +1,9 @@
 pub mod Limits
-pub mod Lists
 pub mod Board
 pub mod Refusal
 pub mod Split
+pub mod ShareRow
+pub mod Empty
 pub mod Movers
 pub mod Timetable
 pub mod Columns

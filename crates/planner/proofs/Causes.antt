@@ -15,19 +15,20 @@ use native.Mathlib.Omega.{arith}
 use borrow.Author.Tests.{ltb-true, ltb-false, lt-ltb, le-ltb}
 use lib.Dec.{leb, ltb}
 use lib.ListN.{length, getD}
+use Rattle.model.specs.Empty.{noJob}
 use Rattle.model.specs.Limits.{windowMost, coresMost, jobsMost, costMost}
-use Rattle.model.specs.Lists.{All}
+use Rattle.rows.specs.Lists.{All, lowest}
+use Rattle.rows.proofs.Lists.{all-map, all-at}
 use Rattle.model.specs.Refusal.{Answer, given, refused}
+use Rattle.model.specs.Split.{Ticks}
 use Rattle.model.specs.declared.Kind.{Kind}
 use Rattle.model.specs.declared.Kind.the-variants.{First, Second}
 use Rattle.model.specs.declared.Board.{Board}
 use Rattle.model.specs.declared.Job.{Job}
 use Rattle.model.specs.declared.Job.the-variants.{Both, OnlyFirst, OnlySecond}
-use Rattle.model.specs.declared.Share.{Share}
-use Rattle.model.proofs.Lists.{all-map, all-at}
 use Rattle.model.proofs.Splits.{all-done-length}
 use Rattle.legal.specs.Lawful.{LegalJob, Lawful}
-use Rattle.legal.specs.Legal.{outside, badCost, tooLong, failsOf, lowest, legalOf}
+use Rattle.legal.specs.Legal.{outside, badCost, tooLong, failsOf, legalOf}
 use Rattle.legal.specs.declared.Test.the-variants.{Cost, Long}
 use Rattle.legal.proofs.Lawful.{legal-lawful, lawful-legal}
 use Rattle.slices.specs.Table.{tableOf}
@@ -37,7 +38,6 @@ use Rattle.split.specs.Shares.{sharesSeen, settled, byOver}
 use Rattle.split.specs.Rows.{Row}
 use Rattle.planner.specs.Listed.{Outside, BadCost, TooLong, LowestOf, Sound, stepsOn, ShortTables, Listed, window, cores, many, cost, long, room, space}
 use Rattle.planner.specs.Plan.{fitted, planOf}
-use Rattle.planner.specs.Promise.{noJob}
 use Rattle.planner.proofs.Plans.{shares-accepted, accepted-few}
 
 -- ---- tests
@@ -127,7 +127,7 @@ module _ (test : Job → Bool) (Bad : Job → Type 0) (tells : (j : Job) → Tel
   none-of (j ∷ js) l = none-in-front j js (lowest test js) (tells j) (none-of js) l
 
 -- ---- the steps refuse by number 6 alone
-abbrev ForRoom : Answer (List Share) → Type 0
+abbrev ForRoom : Answer (List Ticks) → Type 0
 ForRoom (given ss) = Unit {0}
 ForRoom (refused number place) = (number ≡ 6) × (place ≡ 0)
 
@@ -177,7 +177,7 @@ module _ (board : Board) (js : List Job) (m k : ℕ) where
       (none-of _ BadCost cost-tells js (omega arith)))
       (λ _. tt)))))
 
-  space-listed : Lawful board (length js) js → (ss : List Share) → stepsOn board js ≡ given ss → length ss ≡ length js
+  space-listed : Lawful board (length js) js → (ss : List Ticks) → stepsOn board js ≡ given ss → length ss ≡ length js
       → ListedIn (fitted m k (record { shares = ss; slices = tableOf (board .window) ss }))
   space-listed law ss is all =
       by-test _ _ (or-tells (less-tells m (length ss)) (less-tells k (length (tableOf (board .window) ss))))
@@ -189,7 +189,7 @@ module _ (board : Board) (js : List Job) (m k : ℕ) where
       law : Lawful board (length js) js
       law = legal-lawful board (length js) js legal
 
-      go : (x : Answer (List Share)) → stepsOn board js ≡ x → ForRoom x → ListedIn (planOf board (length js) js m k)
+      go : (x : Answer (List Ticks)) → stepsOn board js ≡ x → ForRoom x → ListedIn (planOf board (length js) js m k)
       go (given ss) is six =
           rw (legal, is) (space-listed law ss is
           (all-done-length (board .window) 1 js ss (shares-accepted board (length js) js (rw legal is) .whole .done)))
@@ -248,11 +248,11 @@ module _ (board : Board) (js : List Job) where
   sound-legal sound =
       rw (untold (outside-tells windowMost (board .window)) (sound .window), untold cores-tell (⊎-elim (sound .first) (sound .second)))
 
-  steps-accepted : (ss : List Share) → Lawful board (length js) js → stepsOn board js ≡ given ss → Accepted board js ss
+  steps-accepted : (ss : List Ticks) → Lawful board (length js) js → stepsOn board js ≡ given ss → Accepted board js ss
   steps-accepted ss law is = shares-accepted board (length js) js (rw (lawful-legal board (length js) js law) is)
 
   module _ (m k : ℕ) where
-    pub short-tables : (ss : List Share) → Lawful board (length js) js → stepsOn board js ≡ given ss
+    pub short-tables : (ss : List Ticks) → Lawful board (length js) js → stepsOn board js ≡ given ss
         → (m < length js) ⊎ (k < length (tableOf (board .window) ss)) → ShortTables board js m k
     short-tables ss law is =
         ⊎-elim inl (λ l. inr (omega (arith, accepted-few board (length js) js ss law (steps-accepted ss law is))))

@@ -16,12 +16,15 @@ use lib.Dec.{ltb}
 use lib.ListN.{length, take, drop, length-map}
 use lib.Seq.{length-take-le}
 use Rattle.model.specs.Board.{on, coresOf}
-use Rattle.model.specs.Columns.{upto, at, sharesIn as sharesFrom}
+use Rattle.model.specs.Columns.{sharesIn as sharesFrom}
+use Rattle.rows.specs.Upto.{upto, at}
+use Rattle.rows.specs.Lists.{All, front}
+use Rattle.rows.proofs.Upto.{upto-length, upto-map}
+use Rattle.rows.proofs.Lists.{all-map}
 use Rattle.model.specs.Limits.{coresMost, jobsMost, slicesMost}
-use Rattle.model.specs.Lists.{All}
 use Rattle.model.specs.Packed.{packOf, sliceIn, slicesIn as slicesFrom, Narrow}
 use Rattle.model.specs.Refusal.{Answer, given, refused, saysRefusal, andThen}
-use Rattle.model.specs.Split.{share, ticksOn}
+use Rattle.model.specs.Split.{Ticks, share, ticksOn}
 use Rattle.model.specs.Timetable.{Inside}
 use Rattle.model.specs.declared.Kind.{Kind}
 use Rattle.model.specs.declared.Kind.the-variants.{First, Second}
@@ -29,17 +32,14 @@ use Rattle.model.specs.declared.Board.{Board}
 use Rattle.model.specs.declared.Job.{Job}
 use Rattle.model.specs.declared.Refusal.{Refusal}
 use Rattle.model.specs.declared.Refusal.the-variants.{TooShort}
-use Rattle.model.specs.declared.Share.{Share}
 use Rattle.model.specs.declared.Slice.{Slice}
-use Rattle.model.proofs.Columns.{upto-length, upto-map}
-use Rattle.model.proofs.Lists.{all-map}
 use Rattle.model.proofs.Packed.{packed-back}
 use Rattle.legal.specs.Lawful.{Lawful}
 use Rattle.slices.specs.Table.{tableOf}
 use Rattle.slices.proofs.Timetabled.{table-timetable}
 use Rattle.split.specs.Shares.{sharesOf}
 use Rattle.planner.specs.Packing.{Tabled}
-use Rattle.planner.specs.Plan.{Plan, Counts, planOf, sharesIn, slicesIn, countsIn, saysPlanned, short, columnsOf, noRows, fitOf, front}
+use Rattle.planner.specs.Plan.{Plan, Counts, planOf, sharesIn, slicesIn, countsIn, saysPlanned, short, columnsOf, noRows, fitOf}
 use Rattle.planner.specs.Promise.{Columned, Filled}
 use Rattle.planner.specs.declared.Fitted.{Fitted}
 use Rattle.planner.specs.declared.Planned.{Planned}
@@ -61,9 +61,9 @@ ticks-back : (k : Kind) (n : ℕ) (a b : List ℕ) → n ≤ length (on k a b) �
 ticks-back First n a b h = upto-map (ticksOn First) n (λ i. share (at a i) (at b i)) ∙ upto-take n a h
 ticks-back Second n a b h = upto-map (ticksOn Second) n (λ i. share (at a i) (at b i)) ∙ upto-take n b h
 
-pub shares-front : (ss : List Share) (l m : List ℕ) → sharesFrom (length ss) (map (ticksOn First) ss ++ l) (map (ticksOn Second) ss ++ m) ≡ ss
+pub shares-front : (ss : List Ticks) (l m : List ℕ) → sharesFrom (length ss) (map (ticksOn First) ss ++ l) (map (ticksOn Second) ss ++ m) ≡ ss
 shares-front [] l m = refl
-shares-front (s ∷ ss) l m = ap (λ (t : List Share). s ∷ t) (shares-front ss l m)
+shares-front (s ∷ ss) l m = ap (λ (t : List Ticks). s ∷ t) (shares-front ss l m)
 
 pub slices-front : (ls : List Slice) (l : List ℕ) → All Narrow ls → slicesFrom (length ls) (map packOf ls ++ l) ≡ ls
 slices-front [] l narrow = refl
@@ -114,7 +114,7 @@ module _ (board : Board) (n : ℕ) (js : List Job) (s1 s2 rows : List ℕ) where
   abbrev answer : Answer Plan
   answer = columnsOf board n js (length s1) (length s2) (length rows)
 
-  abbrev made : List Share → Plan
+  abbrev made : List Ticks → Plan
   made ss = record { shares = ss; slices = tableOf (board .window) ss }
 
   columned-none : (r : Refusal) → saysRefusal r ≡ answer → Columned board n js s1 s2 rows (Refused r) s1 s2 rows
@@ -130,9 +130,9 @@ module _ (board : Board) (n : ℕ) (js : List Job) (s1 s2 rows : List ℕ) where
   pub columned-refused : (r : Refusal) → saysRefusal r ≡ sharesOf board n js → Columned board n js s1 s2 rows (Refused r) s1 s2 rows
   columned-refused r e =
       columned-none r
-      (ap (λ (x : Answer (List Share)). andThen x (λ (ss : List Share). cond (short (length s1) (length s2) (length rows)) (refused 7 0) (given (made ss)))) e)
+      (ap (λ (x : Answer (List Ticks)). andThen x (λ (ss : List Ticks). cond (short (length s1) (length s2) (length rows)) (refused 7 0) (given (made ss)))) e)
 
-  pub columned-short : {ss : List Share} → sharesOf board n js ≡ given ss → short (length s1) (length s2) (length rows) ≡ true
+  pub columned-short : {ss : List Ticks} → sharesOf board n js ≡ given ss → short (length s1) (length s2) (length rows) ≡ true
       → Columned board n js s1 s2 rows (Refused TooShort) s1 s2 rows
   columned-short is e = columned-none TooShort (rw (is, e) refl)
 
@@ -141,7 +141,7 @@ module _ (board : Board) (n : ℕ) (js : List Job) (s1 s2 rows : List ℕ) where
       → short (length s1) (length s2) (length rows) ≡ false → s1′ ≡ take count a ++ drop count s1 → s2′ ≡ take count b ++ drop count s2
       → Tabled (board .window) (sharesFrom count s1′ s2′) rows rows′ r → Columned board n js s1 s2 rows (Counted count r) s1′ s2′ rows′
   columned-plan count r a b s1′ s2′ rows′ fits1 fits2 is enough put1 put2 tabled′ =
-      let ss : List Share = sharesFrom count a b in
+      let ss : List Ticks = sharesFrom count a b in
       let tabled : Tabled (board .window) ss rows rows′ r = rw (put-same count a b s1 s2 s1′ s2′ fits1 fits2 put1 put2) at tabled′ in
       let size : count ≡ length ss = sym (upto-length count (λ i. share (at a i) (at b i))) in
       let plan : given (made ss) ≡ answer = rw (is, enough) refl in
@@ -185,14 +185,14 @@ module _ (board : Board) (n : ℕ) (js : List Job) (s1 s2 rows : List ℕ) where
           (c .second ∙ ap (λ (x : Answer Plan). front (map (ticksOn Second) (sharesIn x)) s2) roomy)
           (c .slices ∙ ap (λ (x : Answer Plan). front (map packOf (slicesIn x)) rows) roomy))
         where
-          all : Answer (List Share) → Answer Plan
-          all x = andThen x (λ (ss : List Share). given (made ss))
+          all : Answer (List Ticks) → Answer Plan
+          all x = andThen x (λ (ss : List Ticks). given (made ss))
 
           -- Columns that are long enough for every set are never too short.
           roomy : answer ≡ all (sharesOf board n js)
           roomy = rw (full1, full2, full) refl
 
-          one : (ss : List Share) → sharesOf board n js ≡ given ss → (jobs count : ℕ) → jobs ≡ length ss → count ≡ length (tableOf (board .window) ss)
+          one : (ss : List Ticks) → sharesOf board n js ≡ given ss → (jobs count : ℕ) → jobs ≡ length ss → count ≡ length (tableOf (board .window) ss)
               → s1′ ≡ front (map (ticksOn First) ss) s1 → s2′ ≡ front (map (ticksOn Second) ss) s2
               → rows′ ≡ front (map packOf (tableOf (board .window) ss)) rows
               → (s t : Bool) → ltb m jobs ≡ s → ltb k count ≡ t → planOf board n js m k ≡ cond (s || t) (refused 7 0) (given (made ss))
@@ -215,7 +215,7 @@ module _ (board : Board) (n : ℕ) (js : List Job) (s1 s2 rows : List ℕ) where
                 fit-slices = ltb-false _ _ b;
               }
 
-          go : (x : Answer (List Share)) → sharesOf board n js ≡ x → (r : Planned) → saysPlanned r ≡ countsIn (all x)
+          go : (x : Answer (List Ticks)) → sharesOf board n js ≡ x → (r : Planned) → saysPlanned r ≡ countsIn (all x)
               → s1′ ≡ front (map (ticksOn First) (sharesIn (all x))) s1 → s2′ ≡ front (map (ticksOn Second) (sharesIn (all x))) s2
               → rows′ ≡ front (map packOf (slicesIn (all x))) rows → Filled board n js m k (tables (fitOf r m k))
           go (refused number place) is (Counted jobs count) says first second slices = never (cc)

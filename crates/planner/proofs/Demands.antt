@@ -2,18 +2,20 @@
 -- answers. Read this page first. Each theorem starts from the promise in `plan`'s contract, `Promised`, and from nothing else: the call is
 -- given the jobs js and tables that hold ss and ls, it answers r, and the tables then hold ss′ and ls′.
 -- The words are those of the model: DoneBy (one job's work), Runs (a tick of a slice), SameCore, ticksIn, Split. Assumes nothing.
-use mathlib.Core.List.{List}
+use mathlib.Core.List.{List, map}
 use mathlib.Core.Logic.{_↔_, ⊎-elim}
 use mathlib.Core.Path.{_≡_, refl, ap, _∙_}
 use Prim.Native.Nat.{ℕ, _+_, _-_, _*_, _≤_, _<_}
 use native.Mathlib.Omega.{arith}
-use lib.ListN.{length, take, drop, getD, length-take}
+use lib.ListN.{length, take, drop, getD, length-take, length-map, List·getD-map}
 use lib.Seq.{getD-take}
 use Rattle.model.specs.Board.{roomOf}
+use Rattle.model.specs.Empty.{noJob, noShare, noSlice}
 use Rattle.model.specs.Limits.{jobsMost}
 use Rattle.model.specs.Movers.{movers, unevens}
 use Rattle.model.specs.Refusal.{Answer, given, refused, numberOf, placeOf}
-use Rattle.model.specs.Split.{share, ticksOn, DoneBy, Split}
+use Rattle.model.specs.ShareRow.{ticksOfRow}
+use Rattle.model.specs.Split.{Ticks, share, ticksOn, DoneBy, Split}
 use Rattle.model.specs.Timetable.{Runs, SameCore, Inside, ticksIn}
 use Rattle.model.specs.declared.Kind.{Kind}
 use Rattle.model.specs.declared.Kind.the-variants.{First, Second}
@@ -22,15 +24,14 @@ use Rattle.model.specs.declared.Job.{Job}
 use Rattle.model.specs.declared.Refusal.{Refusal}
 use Rattle.model.specs.declared.Share.{Share}
 use Rattle.model.specs.declared.Slice.{Slice}
-use Rattle.model.proofs.Lists.{all-at}
+use Rattle.rows.proofs.Lists.{all-at}
 use Rattle.model.proofs.Splits.{all-done-at}
 use Rattle.legal.specs.Lawful.{Lawful}
 use Rattle.legal.specs.Legal.{legalOf}
 use Rattle.split.specs.Promise.{stretchedOn, SmallerSplit}
 use Rattle.planner.specs.Listed.{BadCost, TooLong, LowestOf, ShortTables, Listed, window, cores, many, cost, long, room, space}
 use Rattle.planner.specs.Plan.{Counts, planOf, countsIn, saysPlanned}
-use Rattle.planner.specs.Packing.{noSlice}
-use Rattle.planner.specs.Promise.{noJob, Promised}
+use Rattle.planner.specs.Promise.{Promised}
 use Rattle.planner.specs.declared.Planned.{Planned}
 use Rattle.planner.specs.declared.Planned.the-variants.{Plan, Refused}
 use Rattle.planner.proofs.Causes.{plan-listed, listed-plan, short-tables, lawful-left}
@@ -108,7 +109,7 @@ module _ {board : Board} {js : List Job} {ss ss′ : List Share} {ls ls′ : Lis
     )
 
     -- The rows that are counted are those of the rules, one by one: `planOf` is the steps of the split, and the table of their shares.
-    pub rows-by-rules : planOf board (length js) js (length ss) (length ls) ≡ given (record { shares = take jobs ss′; slices = take slices ls′ })
+    pub rows-by-rules : planOf board (length js) js (length ss) (length ls) ≡ given (record { shares = map ticksOfRow (take jobs ss′); slices = take slices ls′ })
     rows-by-rules = counts-there p .by-rules
 
     -- The rows past them stay as they were.
@@ -116,10 +117,10 @@ module _ {board : Board} {js : List Job} {ss ss′ : List Share} {ls ls′ : Lis
     rows-past = (counts-there p .shares-past, counts-there p .slices-past)
 
     -- At most m1 + m2 jobs move, at most one of them is not even, and there are at most n + 2·(m1 + m2) − 2 slices.
-    pub movers-few : movers (take jobs ss′) ≤ board .first + board .second
+    pub movers-few : movers (map ticksOfRow (take jobs ss′)) ≤ board .first + board .second
     movers-few = p .demand2 .few-movers
 
-    pub one-uneven : unevens (board .window) (take jobs ss′) ≤ 1
+    pub one-uneven : unevens (board .window) (map ticksOfRow (take jobs ss′)) ≤ 1
     one-uneven = p .demand2 .one-uneven
 
     pub slices-few : slices + 2 ≤ length js + 2 * (board .first + board .second)
@@ -129,26 +130,28 @@ module _ {board : Board} {js : List Job} {ss ss′ : List Share} {ls ls′ : Lis
     abbrev row : ℕ → Slice
     row i = getD ls′ i noSlice
 
-    abbrev shareOf : ℕ → Share
-    shareOf j = getD ss′ j (share 0 0)
+    abbrev shareOf : ℕ → Ticks
+    shareOf j = ticksOfRow (getD ss′ j noShare)
+
+    share-at : (j : ℕ) → j < length js → getD (map ticksOfRow (take jobs ss′)) j (share 0 0) ≡ shareOf j
+    share-at j l = List·getD-map ticksOfRow (take jobs ss′) j noShare ∙ ap ticksOfRow (getD-take jobs ss′ j noShare (omega (arith, counts-there p .all)))
 
     -- Each job gets its whole work: its share, in whole ticks, does it,
     pub job-whole : (j : ℕ) → j < length js → DoneBy (board .window) 1 (getD js j noJob) (shareOf j)
     job-whole j l =
-        rw (getD-take jobs ss′ j (share 0 0) (omega (arith, counts-there p .all))) at
-        (all-done-at (board .window) 1 noJob (share 0 0) js (take jobs ss′) j l (p .demand2 .whole .done))
+        rw (share-at j l) at (all-done-at (board .window) 1 noJob (share 0 0) js (map ticksOfRow (take jobs ss′)) j l (p .demand2 .whole .done))
 
     -- the lengths of its slices on each kind add up to the share,
     pub job-served : (kind : Kind) (j : ℕ) → j < length js → ticksIn kind j (take slices ls′) ≡ ticksOn kind (shareOf j)
     job-served kind j l =
-        rw (getD-take jobs ss′ j (share 0 0) (omega (arith, counts-there p .all))) at
-        (p .demand2 .timetable .served kind j (omega (arith, counts-there p .all, counts-there p .share-rows)))
+        rw (share-at j l) at
+        (p .demand2 .timetable .served kind j (omega (arith, counts-there p .all, counts-there p .share-rows, length-map (take jobs ss′) ticksOfRow)))
 
     -- and each slice is of a job of the set, inside the window, and on a core that the board has.
     pub slice-inside : (i : ℕ) → i < slices → Inside board (length js) (row i)
     slice-inside i l =
-        rw (getD-take slices ls′ i noSlice l, counts-there p .share-rows, counts-there p .all) at
-        (all-at (Inside board (length (take jobs ss′))) noSlice (take slices ls′) i (omega (arith, counts-there p .slice-rows))
+        rw (getD-take slices ls′ i noSlice l, length-map (take jobs ss′) ticksOfRow, counts-there p .share-rows, counts-there p .all) at
+        (all-at (Inside board (length (map ticksOfRow (take jobs ss′)))) noSlice (take slices ls′) i (omega (arith, counts-there p .slice-rows))
         (p .demand2 .timetable .inside))
 
     -- No core runs two jobs at once: no tick is in two rows of one core.

@@ -10,16 +10,15 @@ use borrow.Author.Tests.{le-leb, lt-leb}
 use lib.Arith.{digits-div, digits-mod}
 use lib.Dec.{leb, ltb}
 use lib.ListN.{length, drop, set}
-use Rattle.model.specs.Columns.{upto, at}
+use Rattle.rows.specs.Upto.{upto, at}
+use Rattle.rows.proofs.Upto.{upto-length, upto-at, upto-left, upto-none}
+use Rattle.rows.proofs.Lists.{all-at}
 use Rattle.model.specs.Limits.{coresMost, jobsMost, slicesMost}
 use Rattle.model.specs.Packed.{packOf}
-use Rattle.model.specs.Split.{share, ticksOn}
+use Rattle.model.specs.Split.{Ticks, share, ticksOn}
 use Rattle.model.specs.declared.Kind.{Kind}
 use Rattle.model.specs.declared.Kind.the-variants.{First, Second}
-use Rattle.model.specs.declared.Share.{Share}
 use Rattle.model.specs.declared.Slice.{Slice}
-use Rattle.model.proofs.Columns.{upto-length, upto-at, upto-left, upto-none}
-use Rattle.model.proofs.Lists.{all-at}
 use Rattle.slices.specs.Table.{Piece, chosen, cutOf, sliceOf}
 use Rattle.planner.specs.Packing.{classOf, shareOn, sharesOn, Filling, fillingOf, written, placed, filled, passed, Sized, Asks, Stands}
 use Rattle.planner.specs.declared.packing.Class.{Class}
@@ -85,7 +84,7 @@ mine-on : (k : Kind) (a b : ℕ) → ticksOn k (shareOn k a b) ≡ a
 mine-on First a b = refl
 mine-on Second a b = refl
 
-both-on : (k : Kind) (a b : ℕ) → shareOn k a b .first .0 + shareOn k a b .second .0 ≡ a + b
+both-on : (k : Kind) (a b : ℕ) → shareOn k a b .first + shareOn k a b .second ≡ a + b
 both-on First a b = refl
 both-on Second a b = add-comm b a
 
@@ -143,7 +142,7 @@ module _ (k : Kind) {w : ℕ} (t : Filling) (ps qs : List Piece) {column : List 
   stands-rest h = rw rest at h
 
 -- ---- a pass over the jobs
-chosen-cons : (test : Share → Bool) (k : Kind) (i : ℕ) (s : Share) (ss : List Share)
+chosen-cons : (test : Ticks → Bool) (k : Kind) (i : ℕ) (s : Ticks) (ss : List Ticks)
     → chosen test k i (s ∷ ss) ≡ chosen test k i (s ∷ []) ++ chosen test k (i + 1) ss
 unfolding chosen
 chosen-cons test k i s ss = go (test s)
@@ -169,9 +168,9 @@ module _ (class : Class) (k : Kind) (w n : ℕ) (mine other : List ℕ) where
 
     pub share-within : Sized w (sharesOn k n mine other) → at mine i + at other i ≤ w
     share-within sized =
-        let f : ℕ → Share = λ j. shareOn k (at mine j) (at other j) in
+        let f : ℕ → Ticks = λ j. shareOn k (at mine j) (at other j) in
         let each =
-        all-at (λ (s : Share). s .first .0 + s .second .0 ≤ w) (f i) (upto n f) i (rw (upto-length n f) below) (sized .each) in
+        all-at (λ (s : Ticks). s .first + s .second ≤ w) (f i) (upto n f) i (rw (upto-length n f) below) (sized .each) in
         rw (upto-at n f (f i) i below, both-on k (at mine i) (at other i)) at each
 
     module _ {end : Filling} {column : List ℕ} {p : Spot} (passing : Passing end column p i) where

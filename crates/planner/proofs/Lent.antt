@@ -11,13 +11,15 @@ use Prim.Native.Nat.{ℕ, _-_, _≤_, _<_, min}
 use native.Mathlib.Omega.{arith}
 use borrow.Author.Tests.{leb-true, leb-false, lt-ltb}
 use lib.Dec.{leb, ltb}
-use lib.ListN.{length, take, drop, replicate}
+use lib.ListN.{length, take, drop, replicate, length-map}
 use lib.Seq.{take-append-seam, take-length}
 use Rattle.model.specs.Board.{roomOf}
 use Rattle.model.specs.Columns.{costOn, jobsIn, seen, sharesIn as sharesFrom}
 use Rattle.model.specs.Limits.{windowMost, coresMost, jobsMost}
 use Rattle.model.specs.Packed.{slicesIn as slicesFrom}
 use Rattle.model.specs.Refusal.{Answer, given, refused, andThen}
+use Rattle.model.specs.ShareRow.{rowOf, ticksOfRow}
+use Rattle.model.specs.Split.{Ticks}
 use Rattle.model.specs.declared.Kind.{Kind}
 use Rattle.model.specs.declared.Kind.the-variants.{First, Second}
 use Rattle.model.specs.declared.Board.{Board}
@@ -25,12 +27,14 @@ use Rattle.model.specs.declared.Job.{Job}
 use Rattle.model.specs.declared.Share.{Share}
 use Rattle.model.specs.declared.Slice.{Slice}
 use Rattle.model.proofs.Columns.{costs-back}
+use Rattle.model.proofs.ShareRow.{rows-back}
 use Rattle.legal.specs.Legal.{outside, legalOf}
 use Rattle.slices.specs.Table.{tableOf}
 use Rattle.split.specs.Shares.{splitOf, sharesOf}
 use Rattle.split.proofs.Demands.{demands, exactly}
 use Rattle.split.proofs.Seen.{shares-seen}
-use Rattle.planner.specs.Plan.{Plan, Counts, fitted, planOf, sharesIn, slicesIn, countsIn, saysPlanned, front}
+use Rattle.planner.specs.Plan.{Plan, Counts, fitted, planOf, sharesIn, slicesIn, countsIn, saysPlanned}
+use Rattle.rows.specs.Lists.{front}
 use Rattle.planner.specs.Promise.{Filled, Unchanged, Served, Promised}
 use Rattle.planner.specs.declared.Planned.{Planned}
 use Rattle.planner.specs.declared.Planned.the-variants.{Plan as Counted, Refused}
@@ -58,10 +62,10 @@ plan-many board n xs ys m k h =
     rw (legal-many board n xs h, legal-many board n ys h)
     (go (outside windowMost (board .window)) (outside coresMost (board .first) || outside coresMost (board .second)))
   where
-    made : List Share → Answer Plan
+    made : List Ticks → Answer Plan
     made ss = fitted m k (record { shares = ss; slices = tableOf (board .window) ss })
 
-    from : List Job → Unit {0} → Answer (List Share)
+    from : List Job → Unit {0} → Answer (List Ticks)
     from js _ = splitOf (board .window) (roomOf board First) (roomOf board Second) js
 
     go : (s t : Bool)
@@ -73,7 +77,7 @@ plan-many board n xs ys m k h =
 
 plan-seen : (board : Board) (n : ℕ) (js : List Job) (m k : ℕ) → planOf board n (map seen js) m k ≡ planOf board n js m k
 plan-seen board n js m k =
-    ap (λ (x : Answer (List Share)). andThen x (λ (ss : List Share). fitted m k (record { shares = ss; slices = tableOf (board .window) ss })))
+    ap (λ (x : Answer (List Ticks)). andThen x (λ (ss : List Ticks). fitted m k (record { shares = ss; slices = tableOf (board .window) ss })))
     (shares-seen board n js)
 
 plan-read : (board : Board) (js : List Job) (m k few : ℕ) → few ≡ min (length js) jobsMost
@@ -98,10 +102,11 @@ module _ (board : Board) (js : List Job) (ss ss′ : List Share) (ls ls′ : Lis
   Stands r = Unchanged r ss ss′ ls ls′ × Served board js r ss′ ls′
 
   stands : (r : Planned) (x : Answer Plan) → planOf board (length js) js (length ss) (length ls) ≡ x → saysPlanned r ≡ countsIn x
-      → ss′ ≡ front (sharesIn x) ss → ls′ ≡ front (slicesIn x) ls → Stands r
+      → ss′ ≡ front (map rowOf (sharesIn x)) ss → ls′ ≡ front (slicesIn x) ls → Stands r
   stands (Counted jobs slices) (given p) is says shares-are slices-are =
       let counts : _≡_ {A = Counts} (record { jobs = jobs; slices = slices }) (record { jobs = length (p .shares); slices = length (p .slices) }) = cc in
-      let a : take jobs ss′ ≡ p .shares = rw (shares-are, ap (λ (c : Counts). c .jobs) counts) (take-append-seam (p .shares) _) in
+      let size : jobs ≡ length (map rowOf (p .shares)) = ap (λ (c : Counts). c .jobs) counts ∙ sym (length-map (p .shares) rowOf) in
+      let a : map ticksOfRow (take jobs ss′) ≡ p .shares = rw (shares-are, size, take-append-seam (map rowOf (p .shares)) _) (rows-back (p .shares)) in
       let b : take slices ls′ ≡ p .slices = rw (slices-are, ap (λ (c : Counts). c .slices) counts) (take-append-seam (p .slices) _) in
       (tt, rw (a, b) (plan-kept board (length js) js (length ss) (length ls) is))
   stands (Counted jobs slices) (refused number place) is says shares-are slices-are = never (cc)
@@ -110,28 +115,28 @@ module _ (board : Board) (js : List Job) (ss ss′ : List Share) (ls ls′ : Lis
 
 -- A plan is refused for room where its shares are.
 module _ (board : Board) (n : ℕ) (js : List Job) (m k : ℕ) where
-  abbrev made : List Share → Answer Plan
+  abbrev made : List Ticks → Answer Plan
   made ss = fitted m k (record { shares = ss; slices = tableOf (board .window) ss })
 
   pub plan-room : countsIn (planOf board n js m k) ≡ refused 6 0 → sharesOf board n js ≡ refused 6 0
   plan-room e = go (sharesOf board n js) refl e
     where
-      fits : (ss : List Share) (t : Bool)
+      fits : (ss : List Ticks) (t : Bool)
           → countsIn (cond t (refused 7 0) (given (record { shares = ss; slices = tableOf (board .window) ss }))) ≡ refused 6 0 → ⊥
       fits ss true e = let z : _≡_ {A = ℕ} 7 6 = cc in omega arith
       fits ss false e = never (cc)
 
-      go : (x : Answer (List Share)) → sharesOf board n js ≡ x → countsIn (andThen x made) ≡ refused 6 0 → sharesOf board n js ≡ refused 6 0
+      go : (x : Answer (List Ticks)) → sharesOf board n js ≡ x → countsIn (andThen x made) ≡ refused 6 0 → sharesOf board n js ≡ refused 6 0
       go (given ss) is e = absurd (fits ss (ltb m (length ss) || ltb k (length (tableOf (board .window) ss))) e)
       go (refused number place) is e = is ∙ cc
 
   room-plan : sharesOf board n js ≡ refused 6 0 → countsIn (planOf board n js m k) ≡ refused 6 0
-  room-plan e = ap (λ (x : Answer (List Share)). countsIn (andThen x made)) e
+  room-plan e = ap (λ (x : Answer (List Ticks)). countsIn (andThen x made)) e
 
 pub lent : (board : Board) (js : List Job) (ss ss′ : List Share) (ls ls′ : List Slice) (few : ℕ) (first second : List ℕ) (t : Tables)
     → few ≡ min (length js) jobsMost → first ≡ read First js few → second ≡ read Second js few
     → Filled board (length js) (jobsIn (length js) first second) (length ss) (length ls) t
-    → ss′ ≡ sharesFrom (t .shared) (t .first) (t .second) ++ drop (t .shared) ss → ls′ ≡ slicesFrom (t .sliced) (t .slices) ++ drop (t .sliced) ls
+    → ss′ ≡ map rowOf (sharesFrom (t .shared) (t .first) (t .second)) ++ drop (t .shared) ss → ls′ ≡ slicesFrom (t .sliced) (t .slices) ++ drop (t .sliced) ls
     → Promised board js ss ls (t .planned) ss′ ls′
 lent board js ss ss′ ls ls′ few first second t few-is first-is second-is filled shares-are slices-are =
     record {
@@ -164,11 +169,11 @@ lent board js ss ss′ ls ls′ few first second t few-is first-is second-is fil
     answer : saysPlanned (t .planned) ≡ countsIn (planOf board n js m k)
     answer = filled .says ∙ ap countsIn same
 
-    shares : ss′ ≡ front (sharesIn (planOf board n js m k)) ss
+    shares : ss′ ≡ front (map rowOf (sharesIn (planOf board n js m k))) ss
     shares =
         shares-are ∙
-        rw (filled .shares, filled .shared)
-        (ap (λ (x : Answer Plan). front (sharesIn x) ss) same)
+        rw (filled .shares, filled .shared, ← length-map (sharesIn (planOf board n (jobsIn n first second) m k)) rowOf)
+        (ap (λ (x : Answer Plan). front (map rowOf (sharesIn x)) ss) same)
 
     slices : ls′ ≡ front (slicesIn (planOf board n js m k)) ls
     slices =

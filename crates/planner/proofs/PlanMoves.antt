@@ -17,19 +17,19 @@ use lib.Dec.{ltb}
 use lib.ListN.{length, take, set, replicate, length-append}
 use lib.Seq.{set-at}
 use Rattle.model.specs.Limits.{jobsMost, slicesMost}
-use Rattle.model.specs.Lists.{All, sumOf}
+use Rattle.rows.specs.Lists.{All, sumOf}
+use Rattle.rows.proofs.Lists.{sum-append}
+use Rattle.rows.specs.Numbered.{sumBelow}
 use Rattle.model.specs.Packed.{sliceIn}
 use Rattle.model.specs.Refusal.{Answer, given, refused, andThen}
-use Rattle.model.specs.Split.{AllDone}
+use Rattle.model.specs.Split.{Ticks, AllDone}
 use Rattle.model.specs.declared.Board.{Board}
 use Rattle.model.specs.declared.Job.{Job}
 use Rattle.model.specs.declared.Job.the-variants.{Both, OnlyFirst, OnlySecond}
-use Rattle.model.specs.declared.Share.{Share}
 use Rattle.model.specs.declared.Slice.{Slice}
-use Rattle.model.proofs.Lists.{sum-append}
 use Rattle.model.proofs.Splits.{all-done-length}
 use Rattle.legal.specs.Lawful.{LegalJob}
-use Rattle.slices.specs.Moves.{movesOf, sumBelow, OncePerCore}
+use Rattle.slices.specs.Moves.{movesOf, OncePerCore}
 use Rattle.slices.specs.Table.{tableOf}
 use Rattle.slices.specs.declared.Moves.{Moves}
 use Rattle.slices.proofs.MovesAll.{moves-all}
@@ -78,7 +78,7 @@ pub moving-filled : (board : Board) (n : ℕ) (ks js : List Job) (t : Tables) (r
 moving-filled board n ks js t rows moves same f there rows-are e =
     let x : Answer Plan = roomyPlan board n ks in
     let plan : x ≡ roomyPlan board n js =
-    ap (λ (y : Answer (List Share)). andThen y (λ (ss : List Share). fitted jobsMost slicesMost (record { shares = ss; slices = tableOf (board .window) ss }))) same in
+    ap (λ (y : Answer (List Ticks)). andThen y (λ (ss : List Ticks). fitted jobsMost slicesMost (record { shares = ss; slices = tableOf (board .window) ss }))) same in
     let slices : take (t .sliced) rows ≡ slicesIn x = rw (rows-are, ← slices-take (t .sliced) (t .slices) there) (f .slices) in
     let all : movesBelow (take (t .sliced) rows) (t .shared) ≡ movesIn x = rw (slices, f .shared) (sym (moves-in x)) in
     let count : t .shared ≡ length (movesIn x) = f .shared ∙ sym (ap length (moves-in x) ∙ below-length (slicesIn x) (length (sharesIn x))) in
@@ -100,12 +100,12 @@ both-some a b c d hc hd work = go (ltb 0 (a + b)) refl
         let zb : b ≡ 0 = omega arith in
         absurd (omega (arith, ap (λ (x : ℕ). x * d) za, ap (λ (x : ℕ). x * c) zb, mul-le-mul {n₁ = 1} {m₁ = 1} {n₂ = c} {m₂ = d} hc hd))
 
-do-some : (w : ℕ) (js : List Job) (ss : List Share) → All (LegalJob w) js → AllDone w 1 js ss → All (λ (s : Share). 0 < s .first .0 + s .second .0) ss
+do-some : (w : ℕ) (js : List Job) (ss : List Ticks) → All (LegalJob w) js → AllDone w 1 js ss → All (λ (s : Ticks). 0 < s .first + s .second) ss
 do-some w [] [] l d = tt
 do-some w [] (s ∷ ss) l d = absurd d
 do-some w (j ∷ js) [] l d = absurd d
 do-some w (Both c1 c2 ∷ js) (s ∷ ss) l d =
-    (both-some (s .first .0) (s .second .0) (c1 .0) (c2 .0) (l .0 .0) (l .0 .1) (d .0 .0), do-some w js ss (l .1) (d .1))
+    (both-some (s .first) (s .second) (c1 .0) (c2 .0) (l .0 .0) (l .0 .1) (d .0 .0), do-some w js ss (l .1) (d .1))
 do-some w (OnlyFirst c1 ∷ js) (s ∷ ss) l d = (omega arith, do-some w js ss (l .1) (d .1))
 do-some w (OnlySecond c2 ∷ js) (s ∷ ss) l d = (omega arith, do-some w js ss (l .1) (d .1))
 
@@ -137,8 +137,8 @@ pub plan-roomy : (board : Board) (n : ℕ) (js : List Job) → length js ≤ job
     → roomyPlan board n js ≡ refused number place → number ≤ 6
 plan-roomy board n js short number place e = go (sharesOf board n js) refl e
   where
-    go : (x : Answer (List Share)) → sharesOf board n js ≡ x
-        → andThen x (λ (ss : List Share). fitted jobsMost slicesMost (record { shares = ss; slices = tableOf (board .window) ss }))
+    go : (x : Answer (List Ticks)) → sharesOf board n js ≡ x
+        → andThen x (λ (ss : List Ticks). fitted jobsMost slicesMost (record { shares = ss; slices = tableOf (board .window) ss }))
         ≡ refused number place → number ≤ 6
     go (given ss) is e =
         let law = shares-lawful board n js is in

@@ -11,15 +11,14 @@ use native.Mathlib.Omega.{arith}
 use lib.Dec.{ltb}
 use lib.ListN.{length}
 use Rattle.model.specs.Board.{roomOf}
-use Rattle.model.specs.Lists.{All}
+use Rattle.rows.specs.Lists.{All}
 use Rattle.model.specs.Refusal.{Answer, given, refused, andThen}
-use Rattle.model.specs.Split.{AllDone}
+use Rattle.model.specs.Split.{Ticks, AllDone}
 use Rattle.model.specs.declared.Kind.{Kind}
 use Rattle.model.specs.declared.Kind.the-variants.{First, Second}
 use Rattle.model.specs.declared.Board.{Board}
 use Rattle.model.specs.declared.Job.{Job}
 use Rattle.model.specs.declared.Job.the-variants.{Both, OnlyFirst, OnlySecond}
-use Rattle.model.specs.declared.Share.{Share}
 use Rattle.model.proofs.Splits.{all-done-length}
 use Rattle.legal.specs.Lawful.{Lawful}
 use Rattle.legal.specs.Legal.{legalOf}
@@ -36,10 +35,10 @@ use Rattle.planner.specs.Plan.{Plan, fitted, planOf}
 use Rattle.planner.specs.Promise.{GoodPlan}
 
 -- ---- accepted shares
-abbrev Each : ℕ → List Share → Type 0
-Each w ss = All (λ (s : Share). s .first .0 + s .second .0 ≤ w) ss
+abbrev Each : ℕ → List Ticks → Type 0
+Each w ss = All (λ (s : Ticks). s .first + s .second ≤ w) ss
 
-done-each : (w : ℕ) (js : List Job) (ss : List Share) → AllDone w 1 js ss → Each w ss
+done-each : (w : ℕ) (js : List Job) (ss : List Ticks) → AllDone w 1 js ss → Each w ss
 done-each w [] [] d = tt
 done-each w [] (s ∷ ss) d = absurd d
 done-each w (j ∷ js) [] d = absurd d
@@ -49,7 +48,7 @@ done-each w (OnlySecond c2 ∷ js) (s ∷ ss) d = (omega arith, done-each w js s
 
 module _ (board : Board) (n : ℕ) (js : List Job) where
   -- Shares are given of legal sets alone.
-  pub shares-lawful : {ss : List Share} → sharesOf board n js ≡ given ss → Lawful board n js
+  pub shares-lawful : {ss : List Ticks} → sharesOf board n js ≡ given ss → Lawful board n js
   shares-lawful {ss} e = go (legalOf board n js) refl e
     where
       go : (x : Answer (Unit {0})) → legalOf board n js ≡ x
@@ -57,10 +56,10 @@ module _ (board : Board) (n : ℕ) (js : List Job) where
       go (given _) legal e = legal-lawful board n js legal
       go (refused number place) legal e = let z : _≡_ {A = ℕ} 0 1 = cc in absurd (omega arith)
 
-  pub shares-accepted : {ss : List Share} → sharesOf board n js ≡ given ss → Accepted board js ss
+  pub shares-accepted : {ss : List Ticks} → sharesOf board n js ≡ given ss → Accepted board js ss
   shares-accepted e = rw e at (demands board n js)
 
-  module _ (ss : List Share) (law : Lawful board n js) (ok : Accepted board js ss) where
+  module _ (ss : List Ticks) (law : Lawful board n js) (ok : Accepted board js ss) where
     pub accepted-fits : Fits board ss
     accepted-fits =
         record {
@@ -89,7 +88,7 @@ module _ (board : Board) (n : ℕ) (js : List Job) where
         }
 
   -- What the code asks before it places them.
-  pub table-asks : {ss : List Share} → length js ≡ n → sharesOf board n js ≡ given ss → TableAsks (board .window) ss
+  pub table-asks : {ss : List Ticks} → length js ≡ n → sharesOf board n js ≡ given ss → TableAsks (board .window) ss
   table-asks {ss} size e =
       let law = shares-lawful e in
       let ok = shares-accepted e in
@@ -112,15 +111,15 @@ module _ (board : Board) (n : ℕ) (js : List Job) where
         Made : Type 0
         Made = (sharesOf board n js ≡ given (p .shares)) × (p .slices ≡ tableOf (board .window) (p .shares))
 
-        one : (ss : List Share) → sharesOf board n js ≡ given ss → (t : Bool)
+        one : (ss : List Ticks) → sharesOf board n js ≡ given ss → (t : Bool)
             → cond t (refused 7 0) (given (record { shares = ss; slices = tableOf (board .window) ss })) ≡ given p → Made
         one ss is true e = let z : _≡_ {A = ℕ} 0 1 = cc in absurd (omega arith)
         one ss is false e =
             let same : _≡_ {A = Plan} (record { shares = ss; slices = tableOf (board .window) ss }) p = cc in
             (is ∙ ap (λ (q : Plan). given (q .shares)) same, sym (ap (λ (q : Plan). q .slices) same) ∙ ap (λ (q : Plan). tableOf (board .window) (q .shares)) same)
 
-        go : (x : Answer (List Share)) → sharesOf board n js ≡ x
-            → andThen x (λ (ss : List Share). fitted m k (record { shares = ss; slices = tableOf (board .window) ss })) ≡ given p → Made
+        go : (x : Answer (List Ticks)) → sharesOf board n js ≡ x
+            → andThen x (λ (ss : List Ticks). fitted m k (record { shares = ss; slices = tableOf (board .window) ss })) ≡ given p → Made
         go (given ss) is e = one ss is (ltb m (length ss) || ltb k (length (tableOf (board .window) ss))) e
         go (refused number place) is e = let z : _≡_ {A = ℕ} 0 1 = cc in absurd (omega arith)
 

@@ -5,23 +5,27 @@
 --                  them are as they were
 --   rows-pair      what every two rows of a plan's table have between them, by their numbers
 --   call-refused   a refusal is the definition's
-use mathlib.Core.Path.{_≡_, refl, ap}
-use mathlib.Core.List.{List}
+use mathlib.Core.Path.{_≡_, refl, sym, ap, _∙_}
+use mathlib.Core.List.{List, map}
 use Prim.Native.Nat.{ℕ, _<_}
 use native.Mathlib.Omega.{arith}
-use lib.ListN.{length, take, drop, getD}
+use lib.ListN.{length, take, drop, getD, length-map}
 use lib.Seq.{take-append-seam, drop-append-seam, getD-take}
-use Rattle.model.specs.Lists.{Pairs}
+use Rattle.rows.proofs.Walk.{front-rows}
+use Rattle.model.specs.Empty.{noSlice}
+use Rattle.rows.specs.Lists.{Pairs, front}
+use Rattle.rows.proofs.Lists.{pairs-at}
 use Rattle.model.specs.Refusal.{Answer, given, refused, saysRefusal}
+use Rattle.model.specs.ShareRow.{rowOf, ticksOfRow}
+use Rattle.model.specs.Split.{Ticks}
 use Rattle.model.specs.declared.Board.{Board}
 use Rattle.model.specs.declared.Job.{Job}
 use Rattle.model.specs.declared.Refusal.{Refusal}
 use Rattle.model.specs.declared.Share.{Share}
 use Rattle.model.specs.declared.Slice.{Slice}
-use Rattle.model.proofs.Lists.{pairs-at}
+use Rattle.model.proofs.ShareRow.{rows-back}
 use Rattle.model.proofs.Splits.{all-done-length}
-use Rattle.planner.specs.Plan.{Plan, Counts, planOf, sharesIn, slicesIn, countsIn, saysPlanned, front}
-use Rattle.planner.specs.Packing.{noSlice}
+use Rattle.planner.specs.Plan.{Plan, Counts, planOf, sharesIn, slicesIn, countsIn, saysPlanned}
 use Rattle.planner.specs.Promise.{Promised}
 use Rattle.planner.specs.declared.Planned.the-variants.{Plan as Counted, Refused}
 
@@ -37,15 +41,11 @@ pub record There (board : Board) (js : List Job) (ss ss′ : List Share) (ls ls�
   pub all : jobs ≡ length js
   pub share-rows : length (take jobs ss′) ≡ jobs
   pub slice-rows : length (take slices ls′) ≡ slices
-  pub by-rules : planOf board (length js) js (length ss) (length ls) ≡ given (record { shares = take jobs ss′; slices = take slices ls′ })
+  pub by-rules : planOf board (length js) js (length ss) (length ls) ≡ given (record { shares = map ticksOfRow (take jobs ss′); slices = take slices ls′ })
   pub shares-past : drop jobs ss′ ≡ drop jobs ss
   pub slices-past : drop slices ls′ ≡ drop slices ls
 
--- Rows at the front of a table: those that were counted are the new ones, and the others are the old ones.
-front-rows : {A : Type 0} (new old now : List A) (n : ℕ) → n ≡ length new → now ≡ front new old → (take n now ≡ new) × (drop n now ≡ drop n old)
-front-rows new old now n size is = rw (size, is) (take-append-seam new _, drop-append-seam new _)
-
-plan-of : (ss : List Share) (ls : List Slice) (counts : Counts) (x : Answer Plan) → given counts ≡ countsIn x → ss ≡ sharesIn x → ls ≡ slicesIn x
+plan-of : (ss : List Ticks) (ls : List Slice) (counts : Counts) (x : Answer Plan) → given counts ≡ countsIn x → ss ≡ sharesIn x → ls ≡ slicesIn x
     → x ≡ given (record { shares = ss; slices = ls })
 plan-of ss ls counts (given p) says shares slices = rw (shares, slices) refl
 plan-of ss ls counts (refused number place) says shares slices = let z : _≡_ {A = ℕ} 0 1 = cc in absurd (omega arith)
@@ -55,13 +55,14 @@ pub counts-there : {board : Board} {js : List Job} {ss ss′ : List Share} {ls l
 counts-there {board} {js} {ss} {ss′} {ls} {ls′} {jobs} {slices} p =
     let x = planOf board (length js) js (length ss) (length ls) in
     let counts = counts-are jobs slices x (p .answer) in
-    let shares = front-rows (sharesIn x) ss ss′ jobs (counts .0) (p .shares) in
+    let shares = front-rows (map rowOf (sharesIn x)) ss ss′ jobs (counts .0 ∙ sym (length-map (sharesIn x) rowOf)) (p .shares) in
+    let told : map ticksOfRow (take jobs ss′) ≡ sharesIn x = ap (map ticksOfRow) (shares .0) ∙ rows-back (sharesIn x) in
     let rows = front-rows (slicesIn x) ls ls′ slices (counts .1) (p .slices) in
     record {
-      all = omega (arith, counts .0, ap length (shares .0), all-done-length (board .window) 1 js (take jobs ss′) (p .demand2 .whole .done));
-      share-rows = omega (arith, counts .0, ap length (shares .0));
+      all = counts .0 ∙ ap length (sym told) ∙ all-done-length (board .window) 1 js (map ticksOfRow (take jobs ss′)) (p .demand2 .whole .done);
+      share-rows = omega (arith, counts .0, ap length (shares .0), length-map (sharesIn x) rowOf);
       slice-rows = omega (arith, counts .1, ap length (rows .0));
-      by-rules = plan-of (take jobs ss′) (take slices ls′) _ x (p .answer) (shares .0) (rows .0);
+      by-rules = plan-of (map ticksOfRow (take jobs ss′)) (take slices ls′) _ x (p .answer) told (rows .0);
       shares-past = shares .1;
       slices-past = rows .1;
     }

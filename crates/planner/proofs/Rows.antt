@@ -8,10 +8,9 @@ use lib.ListN.{length, drop, set, length-append, length-map}
 use lib.Seq.{set-at}
 use Rattle.model.specs.Limits.{coresMost, slicesMost}
 use Rattle.model.specs.Packed.{packOf}
-use Rattle.model.specs.Split.{ticksOf}
+use Rattle.model.specs.Split.{Ticks, ticksOf}
 use Rattle.model.specs.declared.Kind.{Kind}
 use Rattle.model.specs.declared.Kind.the-variants.{First, Second}
-use Rattle.model.specs.declared.Share.{Share}
 use Rattle.model.specs.declared.Slice.{Slice}
 use Rattle.slices.specs.Table.{Piece, cutOf, packed, piecesOf, tableOf}
 use Rattle.slices.proofs.Packs.{total}
@@ -51,7 +50,7 @@ filled-packed k w t (p ∷ ps) =
     (filled-packed k w (placed k w t p) ps)
 
 -- The two kinds, one behind the other.
-module _ (w : ℕ) (ss : List Share) (asks : TableAsks w ss) where
+module _ (w : ℕ) (ss : List Ticks) (asks : TableAsks w ss) where
   abbrev slices : Kind → List Slice
   slices k = packed k w 0 (piecesOf k w ss)
 

@@ -21,8 +21,9 @@ use lib.Dec.{ltb}
 use lib.ListN.{length, take, getD, replicate}
 use lib.Seq.{getD-take, length-take-le}
 use Rattle.model.specs.Board.{sameKind}
-use Rattle.model.specs.Lists.{All}
-use Rattle.model.specs.Split.{share, ticksOf, AllDone}
+use Rattle.model.specs.Empty.{noShare, noSlice}
+use Rattle.rows.specs.Lists.{All}
+use Rattle.model.specs.Split.{Ticks, share, ticksOf, AllDone}
 use Rattle.model.specs.Timetable.{isOf, ticksIn}
 use Rattle.model.specs.declared.Kind.{Kind}
 use Rattle.model.specs.declared.Kind.the-variants.{First, Second}
@@ -36,7 +37,6 @@ use Rattle.legal.specs.Lawful.{LegalJob, Lawful}
 use Rattle.split.specs.Home.{stretchedAt}
 use Rattle.split.specs.Promise.{stretchedOn, SmallerSplit}
 use Rattle.planner.specs.Plan.{planOf, slicesIn}
-use Rattle.planner.specs.Packing.{noSlice}
 use Rattle.planner.specs.Promise.{Promised}
 use Rattle.planner.specs.declared.Planned.{Planned}
 use Rattle.planner.specs.declared.Planned.the-variants.{Plan as Counted, Refused}
@@ -67,7 +67,7 @@ second = OnlySecond (record { 0 = 1 })
 
 -- Two rows for shares, and four for slices: two jobs on two cores have no more.
 abbrev shares : List Share
-shares = replicate 2 (share 0 0)
+shares = replicate 2 noShare
 
 abbrev slices : List Slice
 slices = replicate 4 noSlice
@@ -82,7 +82,7 @@ record Small (js : List Job) : Type 0 where
   few : length js ≤ 2
 
 -- A set of jobs whose shares are told.
-small : (js : List Job) (ss : List Share) → All (LegalJob 10) js → AllDone 10 1 js ss → ticksOf First ss + stretchedOn tiny js First ≤ 10
+small : (js : List Job) (ss : List Ticks) → All (LegalJob 10) js → AllDone 10 1 js ss → ticksOf First ss + stretchedOn tiny js First ≤ 10
     → ticksOf Second ss + stretchedOn tiny js Second ≤ 10 → length js ≤ 2 → Small js
 small js ss legal does within₁ within₂ few =
     record {
@@ -163,7 +163,7 @@ pub one-plan : (f : Planner)
 one-plan f same meets =
     let a = job-whole (planned f meets one-first) 0 (omega arith) in
     let b = job-whole (planned f meets one-second) 0 (omega arith) in
-    let e = ap (λ (x : Result). getD (x .shares) 0 (share 0 0) .first .0) (same tiny (first ∷ []) (second ∷ []) shares slices) in
+    let e = ap (λ (x : Result). getD (x .shares) 0 noShare .first .0) (same tiny (first ∷ []) (second ∷ []) shares slices) in
     omega arith
 
 -- ---- One that writes no rows, whichever of the two tables it leaves as it was.
@@ -171,7 +171,7 @@ pub no-shares-written : (f : Planner)
     → ((board : Board) (js : List Job) (ss : List Share) (ls : List Slice) → f board js ss ls .shares ≡ ss) → Meets f → ⊥
 no-shares-written f kept meets =
     let a = job-whole (planned f meets one-first) 0 (omega arith) in
-    let e = ap (λ (ss : List Share). getD ss 0 (share 0 0) .first .0) (kept tiny (first ∷ []) shares slices) in
+    let e = ap (λ (ss : List Share). getD ss 0 noShare .first .0) (kept tiny (first ∷ []) shares slices) in
     omega arith
 
 module _ (f : Planner) (meets : Meets f) {js : List Job} (s : Small js) where
@@ -197,7 +197,7 @@ no-slices-written f kept meets =
 -- ---- Every row a copy of the first.
 pub copied-shares : (f : Planner)
     → ((board : Board) (js : List Job) (ss : List Share) (ls : List Slice) (jobs rows i : ℕ) → f board js ss ls .answer ≡ Counted jobs rows → i < jobs
-    → getD (f board js ss ls .shares) i (share 0 0) ≡ getD (f board js ss ls .shares) 0 (share 0 0))
+    → getD (f board js ss ls .shares) i noShare ≡ getD (f board js ss ls .shares) 0 noShare)
     → Meets f → ⊥
 copied-shares f copies meets =
     let p = planned f meets two in

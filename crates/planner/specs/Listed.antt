@@ -16,18 +16,18 @@ use mathlib.Core.Path.{_≡_}
 use Prim.Native.Nat.{ℕ, _+_, _*_, _≤_, _<_}
 use lib.ListN.{length, getD}
 use Rattle.model.specs.Board.{roomOf}
+use Rattle.model.specs.Empty.{noJob}
 use Rattle.model.specs.Limits.{windowMost, coresMost, jobsMost, costMost}
-use Rattle.model.specs.Lists.{All}
+use Rattle.rows.specs.Lists.{All}
 use Rattle.model.specs.Refusal.{Answer, given, refused}
+use Rattle.model.specs.Split.{Ticks}
 use Rattle.model.specs.declared.Kind.the-variants.{First, Second}
 use Rattle.model.specs.declared.Board.{Board}
 use Rattle.model.specs.declared.Job.{Job}
 use Rattle.model.specs.declared.Job.the-variants.{Both, OnlyFirst, OnlySecond}
-use Rattle.model.specs.declared.Share.{Share}
 use Rattle.legal.specs.Lawful.{Lawful}
 use Rattle.slices.specs.Table.{tableOf}
 use Rattle.split.specs.Shares.{splitOf}
-use Rattle.planner.specs.Promise.{noJob}
 
 abbrev pub Outside : ℕ → ℕ → Type 0
 Outside most x = (x < 1) ⊎ (most < x)
@@ -52,7 +52,7 @@ pub record Sound (board : Board) : Type 0 where
   pub first : Outside coresMost (board .first) → ⊥
   pub second : Outside coresMost (board .second) → ⊥
 
-abbrev pub stepsOn : Board → List Job → Answer (List Share)
+abbrev pub stepsOn : Board → List Job → Answer (List Ticks)
 stepsOn board js = splitOf (board .window) (roomOf board First) (roomOf board Second) js
 
 abbrev pub ShortTables : Board → List Job → (m k : ℕ) → Type 0
@@ -66,5 +66,5 @@ pub data Listed (board : Board) (js : List Job) (m k : ℕ) : (number place : �
   long : (job : ℕ) → LowestOf (TooLong (board .window)) js job → Sound board → length js ≤ jobsMost → All (λ (j : Job). BadCost j → ⊥) js
       → Listed board js m k 5 job
   room : Lawful board (length js) js → stepsOn board js ≡ refused 6 0 → Listed board js m k 6 0
-  space : (ss : List Share) → Lawful board (length js) js → stepsOn board js ≡ given ss → (m < length js) ⊎ (k < length (tableOf (board .window) ss))
+  space : (ss : List Ticks) → Lawful board (length js) js → stepsOn board js ≡ given ss → (m < length js) ⊎ (k < length (tableOf (board .window) ss))
       → Listed board js m k 7 0

@@ -11,7 +11,8 @@ use Rattle.model.specs.Movers.{movers}
 use Rattle.model.specs.declared.Board.{Board}
 use Rattle.model.specs.declared.Job.{Job}
 use Rattle.model.specs.declared.Job.the-variants.{Both, OnlyFirst, OnlySecond}
-use Rattle.legal.specs.Legal.{lowest, legalOf}
+use Rattle.legal.specs.Legal.{legalOf}
+use Rattle.rows.specs.Lists.{lowest}
 use Rattle.split.specs.Home.{atHome, keepOf, giveOf}
 use Rattle.split.specs.Shares.{settled, byOver}
 use Rattle.split.specs.Steps.{better, nextFrom, movedOf, stepOf, stepsOf}

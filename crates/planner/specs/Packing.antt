@@ -1,7 +1,6 @@
 -- What the code that places the slices asks and promises, over the table of specs/Table.antt of crate slices.
 --   classOf     the jobs that a pass places
 --   shareOn     the share of a job by its ticks on a kind and on the other; sharesOn, of columns
---   noSlice     a row that is not written
 --   Filling     a table that is being filled: its column, how many rows there are so far, and the position on the kind where the next run begins
 --   fillingOf   the same, by the row, the core and the place there where the code puts the next slice; begun, where a kind begins
 --   written     a column after numbers are written one behind the other from a row on
@@ -19,33 +18,29 @@ use mathlib.Core.Path.{_≡_}
 use Prim.Native.Nat.{ℕ, _+_, _*_, _≤_, _<_}
 use lib.ListN.{length, drop, set}
 use Rattle.model.specs.Board.{on}
-use Rattle.model.specs.Columns.{upto, at}
+use Rattle.rows.specs.Upto.{upto, at}
+use Rattle.rows.specs.Lists.{All}
 use Rattle.model.specs.Limits.{windowMost, coresMost, jobsMost, slicesMost}
-use Rattle.model.specs.Lists.{All}
 use Rattle.model.specs.Packed.{packOf}
-use Rattle.model.specs.Split.{share, ticksOf}
+use Rattle.model.specs.Split.{Ticks, share, ticksOf}
 use Rattle.model.specs.declared.Kind.{Kind}
 use Rattle.model.specs.declared.Kind.the-variants.{First, Second}
-use Rattle.model.specs.declared.Share.{Share}
 use Rattle.model.specs.declared.Slice.{Slice}
 use Rattle.slices.specs.Table.{Piece, evenMover, otherMover, alone, chosen, cutOf, tableOf}
 use Rattle.planner.specs.declared.packing.Class.{Class}
 use Rattle.planner.specs.declared.packing.Class.the-variants.{Even, Other, Alone}
 use Rattle.planner.specs.declared.packing.Spot.{Spot}
 
-abbrev pub classOf : Class → Kind → ℕ → Share → Bool
+abbrev pub classOf : Class → Kind → ℕ → Ticks → Bool
 classOf Even k w s = evenMover w s
 classOf Other k w s = otherMover w s
 classOf Alone k w s = alone k s
 
-abbrev pub shareOn : Kind → (mine other : ℕ) → Share
+abbrev pub shareOn : Kind → (mine other : ℕ) → Ticks
 shareOn k mine other = share (on k mine other) (on k other mine)
 
-abbrev pub sharesOn : Kind → ℕ → (mine other : List ℕ) → List Share
+abbrev pub sharesOn : Kind → ℕ → (mine other : List ℕ) → List Ticks
 sharesOn k n mine other = upto n (λ i. shareOn k (at mine i) (at other i))
-
-abbrev pub noSlice : Slice
-noSlice = record { job = 0; kind = First; core = 0; start = 0; length = 0 }
 
 pub record Filling : Type 0 where
   pub rows : List ℕ
@@ -71,13 +66,13 @@ unfoldable pub filled : Kind → ℕ → Filling → List Piece → Filling
 filled k w t [] = t
 filled k w t (p ∷ ps) = filled k w (placed k w t p) ps
 
-abbrev pub passed : Class → Kind → ℕ → Filling → ℕ → List Share → Filling
+abbrev pub passed : Class → Kind → ℕ → Filling → ℕ → List Ticks → Filling
 passed class k w t i ss = filled k w t (chosen (classOf class k w) k i ss)
 
 -- Not too many, and each job's two within the window.
-pub record Sized (w : ℕ) (ss : List Share) : Type 0 where
+pub record Sized (w : ℕ) (ss : List Ticks) : Type 0 where
   pub few : length ss ≤ jobsMost
-  pub each : All (λ (s : Share). s .first .0 + s .second .0 ≤ w) ss
+  pub each : All (λ (s : Ticks). s .first + s .second ≤ w) ss
 
 pub record Asks (w : ℕ) (column : List ℕ) (p : Spot) (end : Filling) : Type 0 where
   pub short : w ≤ windowMost
@@ -94,15 +89,15 @@ pub record Rowed (t : Filling) (column : List ℕ) (r : ℕ) : Type 0 where
   pub rows : column ≡ t .rows
   pub count : r ≡ t .count
 
-pub record TableAsks (w : ℕ) (ss : List Share) : Type 0 where
+pub record TableAsks (w : ℕ) (ss : List Ticks) : Type 0 where
   pub some : 1 ≤ w
   pub short : w ≤ windowMost
   pub few : length ss ≤ jobsMost
-  pub each : All (λ (s : Share). s .first .0 + s .second .0 ≤ w) ss
+  pub each : All (λ (s : Ticks). s .first + s .second ≤ w) ss
   pub within1 : ticksOf First ss ≤ coresMost * w
   pub within2 : ticksOf Second ss ≤ coresMost * w
   pub rows : length (tableOf w ss) ≤ slicesMost
 
-pub record Tabled (w : ℕ) (ss : List Share) (before after : List ℕ) (r : ℕ) : Type 0 where
+pub record Tabled (w : ℕ) (ss : List Ticks) (before after : List ℕ) (r : ℕ) : Type 0 where
   pub count : r ≡ length (tableOf w ss)
   pub slices : after ≡ map packOf (tableOf w ss) ++ drop r before

@@ -8,20 +8,19 @@
 --   short        columns of which one is too short for the plan of some set
 --   columnsOf    the plan of any set, for columns: refusal 7 where one is short
 --   noRows, fitOf        what the code makes of an answer for lent tables: refusal 7 where one has too few rows
---   front        a lent table with new rows at its front: the others stay as they were
 -- Assumes nothing.
 use mathlib.Core.Bool.{Bool, cond, _||_}
-use mathlib.Core.List.{List, [], _++_}
+use mathlib.Core.List.{List, []}
 use Prim.Native.Nat.{ℕ}
 use lib.Dec.{ltb}
-use lib.ListN.{length, drop}
+use lib.ListN.{length}
 use Rattle.model.specs.Limits.{jobsMost, slicesMost}
 use Rattle.model.specs.Refusal.{Answer, given, refused, saysRefusal, andThen}
+use Rattle.model.specs.Split.{Ticks}
 use Rattle.model.specs.declared.Board.{Board}
 use Rattle.model.specs.declared.Job.{Job}
 use Rattle.model.specs.declared.Refusal.{Refusal}
 use Rattle.model.specs.declared.Refusal.the-variants.{TooShort}
-use Rattle.model.specs.declared.Share.{Share}
 use Rattle.model.specs.declared.Slice.{Slice}
 use Rattle.slices.specs.Table.{tableOf}
 use Rattle.split.specs.Shares.{sharesOf}
@@ -30,7 +29,7 @@ use Rattle.planner.specs.declared.Planned.{Planned}
 use Rattle.planner.specs.declared.Planned.the-variants.{Plan as Counted, Refused}
 
 pub record Plan : Type 0 where
-  pub shares : List Share
+  pub shares : List Ticks
   pub slices : List Slice
 
 abbrev pub fitted : (m k : ℕ) → Plan → Answer Plan
@@ -38,9 +37,9 @@ fitted m k p = cond (ltb m (length (p .shares)) || ltb k (length (p .slices))) (
 
 abbrev pub planOf : Board → ℕ → List Job → (m k : ℕ) → Answer Plan
 planOf board n js m k =
-    andThen (sharesOf board n js) (λ (ss : List Share). fitted m k (record { shares = ss; slices = tableOf (board .window) ss }))
+    andThen (sharesOf board n js) (λ (ss : List Ticks). fitted m k (record { shares = ss; slices = tableOf (board .window) ss }))
 
-abbrev pub sharesIn : Answer Plan → List Share
+abbrev pub sharesIn : Answer Plan → List Ticks
 sharesIn (given p) = p .shares
 sharesIn (refused number place) = []
 
@@ -67,7 +66,7 @@ short m1 m2 k = ltb m1 jobsMost || ltb m2 jobsMost || ltb k slicesMost
 abbrev pub columnsOf : Board → ℕ → List Job → (m1 m2 k : ℕ) → Answer Plan
 columnsOf board n js m1 m2 k =
     andThen (sharesOf board n js)
-    (λ (ss : List Share). cond (short m1 m2 k) (refused 7 0) (given (record { shares = ss; slices = tableOf (board .window) ss })))
+    (λ (ss : List Ticks). cond (short m1 m2 k) (refused 7 0) (given (record { shares = ss; slices = tableOf (board .window) ss })))
 
 abbrev pub noRows : Refusal → Fitted
 noRows r = record { planned = Refused r; shared = 0; sliced = 0 }
@@ -76,6 +75,3 @@ abbrev pub fitOf : Planned → (m k : ℕ) → Fitted
 fitOf (Refused r) m k = noRows r
 fitOf (Counted jobs rows) m k =
     cond (ltb m jobs || ltb k rows) (noRows TooShort) (record { planned = Counted jobs rows; shared = jobs; sliced = rows })
-
-abbrev pub front : {A : Type 0} → List A → List A → List A
-front new old = new ++ drop (length new) old

@@ -1,5 +1,4 @@
 -- What the planning call promises.
---   noJob        a job that no set has
 --   Columned     the plan in columns: the answer, and every number of each column
 --   Filled       the plan by value: the answer, and the rows that are to be written
 --   Unchanged    demand 1: a refusal changes no row of the lent tables
@@ -20,23 +19,21 @@ use Rattle.model.specs.Movers.{movers, unevens}
 use Rattle.model.specs.Refusal.{given, refused}
 use Rattle.model.specs.Columns.{sharesIn as sharesFrom}
 use Rattle.model.specs.Packed.{packOf, slicesIn as slicesFrom}
-use Rattle.model.specs.Split.{ticksOn, WholeSplit}
+use Rattle.model.specs.ShareRow.{rowOf, ticksOfRow}
+use Rattle.model.specs.Split.{Ticks, ticksOn, WholeSplit}
 use Rattle.model.specs.Timetable.{Timetable}
 use Rattle.model.specs.declared.Kind.the-variants.{First, Second}
 use Rattle.model.specs.declared.Board.{Board}
 use Rattle.model.specs.declared.Job.{Job}
-use Rattle.model.specs.declared.Job.the-variants.{OnlyFirst}
 use Rattle.model.specs.declared.Share.{Share}
 use Rattle.model.specs.declared.Slice.{Slice}
 use Rattle.legal.specs.Legal.{legalOf}
 use Rattle.split.specs.Promise.{SplitOn, SmallerSplit, stretchedOn}
-use Rattle.planner.specs.Plan.{planOf, columnsOf, sharesIn, slicesIn, countsIn, saysPlanned, front}
+use Rattle.planner.specs.Plan.{planOf, columnsOf, sharesIn, slicesIn, countsIn, saysPlanned}
+use Rattle.rows.specs.Lists.{front}
 use Rattle.planner.specs.declared.Planned.{Planned}
 use Rattle.planner.specs.declared.Planned.the-variants.{Plan, Refused}
 use Rattle.planner.specs.declared.Tables.{Tables}
-
-abbrev pub noJob : Job
-noJob = OnlyFirst (record { 0 = 0 })
 
 -- What the columns hold before the call, and after it with a prime: new numbers at the front of each, and the others as they were.
 pub record Columned (board : Board) (n : ℕ) (js : List Job) (s1 s2 rows : List ℕ) (r : Planned) (s1′ s2′ rows′ : List ℕ) : Type 0 where
@@ -61,7 +58,7 @@ abbrev pub Unchanged : Planned → (ss ss′ : List Share) → (ls ls′ : List 
 Unchanged (Plan jobs slices) ss ss′ ls ls′ = Unit {0}
 Unchanged (Refused r) ss ss′ ls ls′ = (ss′ ≡ ss) × (ls′ ≡ ls)
 
-pub record GoodPlan (board : Board) (js : List Job) (ss : List Share) (rows : List Slice) : Type 0 where
+pub record GoodPlan (board : Board) (js : List Job) (ss : List Ticks) (rows : List Slice) : Type 0 where
   pub whole : WholeSplit (board .window) (roomOf board First) (roomOf board Second) js ss
   pub timetable : Timetable board ss rows
   pub few-movers : movers ss ≤ board .first + board .second
@@ -69,7 +66,7 @@ pub record GoodPlan (board : Board) (js : List Job) (ss : List Share) (rows : Li
   pub few : length rows + 2 ≤ length js + 2 * (board .first + board .second)
 
 abbrev pub Served : Board → List Job → Planned → List Share → List Slice → Type 0
-Served board js (Plan jobs slices) ss′ ls′ = GoodPlan board js (take jobs ss′) (take slices ls′)
+Served board js (Plan jobs slices) ss′ ls′ = GoodPlan board js (map ticksOfRow (take jobs ss′)) (take slices ls′)
 Served board js (Refused r) ss′ ls′ = Unit {0}
 
 pub record ForRoom (board : Board) (js : List Job) (r : Planned) : Type 0 where
@@ -80,7 +77,7 @@ pub record ForRoom (board : Board) (js : List Job) (r : Planned) : Type 0 where
 -- The jobs js, and tables that held ss and ls, and hold ss′ and ls′ after the call.
 pub record Promised (board : Board) (js : List Job) (ss : List Share) (ls : List Slice) (r : Planned) (ss′ : List Share) (ls′ : List Slice) : Type 0 where
   pub answer : saysPlanned r ≡ countsIn (planOf board (length js) js (length ss) (length ls))
-  pub shares : ss′ ≡ front (sharesIn (planOf board (length js) js (length ss) (length ls))) ss
+  pub shares : ss′ ≡ front (map rowOf (sharesIn (planOf board (length js) js (length ss) (length ls)))) ss
   pub slices : ls′ ≡ front (slicesIn (planOf board (length js) js (length ss) (length ls))) ls
   pub demand1 : Unchanged r ss ss′ ls ls′
   pub demand2 : Served board js r ss′ ls′

@@ -11,6 +11,7 @@ ghost use lib.ListN.{length, take, drop, replicate};
 ghost use Rattle.model.specs.Columns.{costOn, jobsIn, sharesIn};
 ghost use Rattle.model.specs.Limits.{jobsMost, slicesMost};
 ghost use Rattle.model.specs.Packed.{sliceIn, slicesIn};
+ghost use Rattle.model.specs.ShareRow.{rowOf};
 ghost use Rattle.model.specs.Split.{share};
 ghost use Rattle.planner.specs.PlanMoves.{movesBelow, noMoves, MovesPromised};
 ghost use Rattle.planner.specs.Plan.{fitOf, noRows, short};
@@ -247,7 +248,7 @@ fn costs_in(kind: Kind, jobs: &[Job], n: usize) -> [u32; JOBS_MOST]
 
 // The share of its ticks on each kind.
 fn share_of(first: u16, second: u16) -> Share
-    ensures { λ r. ⌜ r ≡ share first second ⌝ }
+    ensures { λ r. ⌜ r ≡ rowOf (share first second) ⌝ }
 {
     Share {
         first: FirstTicks(first as u32),
@@ -258,7 +259,7 @@ fn share_of(first: u16, second: u16) -> Share
 // The first n rows of a share table become the shares of two columns, and the others stay.
 fn put_shares(table: &mut [Share], first: [u16; JOBS_MOST], second: [u16; JOBS_MOST], n: usize)
     requires { ⌜ (n ≤ jobsMost) × (n ≤ length (now table)) ⌝ }
-    ensures { λ _. ⌜ now (table .exit) ≡ sharesIn n first second ++ drop n (now (table .entry)) ⌝ }
+    ensures { λ _. ⌜ now (table .exit) ≡ map rowOf (sharesIn n first second) ++ drop n (now (table .entry)) ⌝ }
 {
     let mut i: usize = 0;
     while i < n {

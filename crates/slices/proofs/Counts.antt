@@ -7,14 +7,13 @@ use Prim.Native.Nat.{ℕ, _+_, _*_, _≤_, _<_}
 use native.Mathlib.Omega.{arith}
 use lib.ListN.{length, getD, length-append}
 use Rattle.model.specs.Board.{coresOf}
-use Rattle.model.specs.Lists.{countOf}
+use Rattle.rows.specs.Lists.{countOf}
 use Rattle.model.specs.Movers.{movers}
-use Rattle.model.specs.Split.{share, ticksOn}
+use Rattle.model.specs.Split.{Ticks, share, ticksOn}
 use Rattle.model.specs.Timetable.{isOf, ticksIn}
 use Rattle.model.specs.declared.Board.{Board}
 use Rattle.model.specs.declared.Kind.{Kind}
 use Rattle.model.specs.declared.Kind.the-variants.{First, Second}
-use Rattle.model.specs.declared.Share.{Share}
 use Rattle.model.specs.declared.Slice.{Slice}
 use Rattle.model.proofs.Movers.{movers-few}
 use Rattle.slices.specs.Fits.{Fits}
@@ -33,7 +32,7 @@ ticks-some kind job (s ∷ rows) h = go (isOf kind job s) h (ticks-some kind job
     go true h more = omega arith
     go false h more = omega (arith, more (omega arith))
 
-module _ (board : Board) (ss : List Share) (fits : Fits board ss) where
+module _ (board : Board) (ss : List Ticks) (fits : Fits board ss) where
   -- Every job with a share above 0 on a kind has a slice there.
   pub table-jobs : (kind : Kind) (job : ℕ) → job < length ss → 0 < ticksOn kind (getD ss job (share 0 0))
       → 0 < countOf (isOf kind job) (tableOf (board .window) ss)

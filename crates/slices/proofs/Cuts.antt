@@ -9,7 +9,7 @@ use lib.Dec.{leb, eqb}
 use lib.ListN.{length}
 use borrow.Author.Tests.{leb-true, leb-false}
 use Rattle.model.specs.Board.{on, sameKind}
-use Rattle.model.specs.Lists.{All, Pairs}
+use Rattle.rows.specs.Lists.{All, Pairs}
 use Rattle.model.specs.Timetable.{SameCore, ticksIn}
 use Rattle.model.specs.declared.Kind.{Kind}
 use Rattle.model.specs.declared.Kind.the-variants.{First, Second}

@@ -8,12 +8,12 @@ use Prim.Native.Nat.{ℕ, _<_}
 use native.Mathlib.Omega.{arith}
 use lib.Dec.{eqb, ltb}
 use borrow.Author.Tests.{eqb-true, ltb-true, eq-eqb, lt-ltb}
-use Rattle.model.specs.Lists.{All}
+use Rattle.rows.specs.Lists.{All}
+use Rattle.rows.proofs.Members.{all-member}
 use Rattle.model.specs.declared.Slice.{Slice}
 use Rattle.slices.specs.Moves.{isBefore, later, laterOf, beforeFrom, beforeOf}
 use Rattle.slices.specs.declared.Before.{Before}
 use Rattle.slices.specs.declared.Before.the-variants.{Nothing, Row}
-use Rattle.slices.proofs.Members.{all-member}
 
 module _ (s : Slice) where
   -- What is found after a row is the row itself or was found before it.

@@ -5,8 +5,6 @@ pub mod Pieces
 pub mod Places
 pub mod Timetabled
 pub mod Counts
-pub mod Rows
-pub mod Members
 pub mod Totals
 pub mod Earlier
 pub mod MovesAll

@@ -9,17 +9,18 @@ use lib.Dec.{eqb}
 use lib.ListN.{length}
 use borrow.Author.Tests.{eqb-true, eq-eqb}
 use Rattle.model.specs.Board.{sameKind}
-use Rattle.model.specs.Lists.{countOf}
+use Rattle.rows.specs.Lists.{countOf}
+use Rattle.rows.proofs.Lists.{all-map, pairs-map}
+use Rattle.rows.specs.Numbered.{sumBelow}
+use Rattle.rows.proofs.Members.{all-members, all-member, pairs-members}
 use Rattle.model.specs.Timetable.{Apart, SameCore}
 use Rattle.model.specs.declared.Kind.{Kind}
 use Rattle.model.specs.declared.Kind.the-variants.{First, Second}
 use Rattle.model.specs.declared.Slice.{Slice}
-use Rattle.model.proofs.Lists.{all-map, pairs-map}
-use Rattle.slices.specs.Moves.{beforeOf, isOuter, isInner, counted, movesOf, OncePerCore, sumBelow}
+use Rattle.slices.specs.Moves.{beforeOf, isOuter, isInner, counted, movesOf, OncePerCore}
 use Rattle.slices.specs.declared.Before.{Before}
 use Rattle.slices.specs.declared.Before.the-variants.{Nothing, Row}
 use Rattle.slices.proofs.Earlier.{before-row, before-none}
-use Rattle.slices.proofs.Members.{all-members, all-member, pairs-members}
 use Rattle.slices.proofs.Totals.{below-ones, count-jobs, count-all, count-member, count-find, count-most}
 
 abbrev isFirst : Before → Slice → Bool

@@ -10,15 +10,14 @@ use lib.Dec.{eqb, ltb}
 use lib.ListN.{length}
 use borrow.Author.Tests.{ltb-true, ltb-false}
 use Rattle.model.specs.Board.{sameKind}
-use Rattle.model.specs.Lists.{All, Pairs, countOf}
-use Rattle.model.specs.Split.{share}
+use Rattle.rows.specs.Lists.{All, Pairs, countOf}
+use Rattle.rows.proofs.Lists.{all-map, all-at}
+use Rattle.model.specs.Split.{Ticks, share}
 use Rattle.model.specs.Timetable.{SameCore, Inside, isOf}
 use Rattle.model.specs.declared.Board.{Board}
 use Rattle.model.specs.declared.Kind.{Kind}
 use Rattle.model.specs.declared.Kind.the-variants.{First, Second}
-use Rattle.model.specs.declared.Share.{Share}
 use Rattle.model.specs.declared.Slice.{Slice}
-use Rattle.model.proofs.Lists.{all-map, all-at}
 use Rattle.slices.specs.Fits.{Fits}
 use Rattle.slices.specs.Moves.{OncePerCore}
 use Rattle.slices.specs.Table.{Piece, tableOf}
@@ -38,7 +37,7 @@ count-kind kind job (s ∷ rows) = omega (arith, go (sameKind kind (s .kind)) (e
     go false true = omega arith
     go false false = omega arith
 
-module _ (board : Board) (ss : List Share) (fits : Fits board ss) where
+module _ (board : Board) (ss : List Ticks) (fits : Fits board ss) where
   abbrev w : ℕ
   w = board .window
 
@@ -56,24 +55,24 @@ module _ (board : Board) (ss : List Share) (fits : Fits board ss) where
       (λ k. kind-pairs board ss fits k (λ (s t : Slice). s .job ≡ t .job → SameCore s t → ⊥)
       (λ o p h. cut-cores k w o p (fits .some)) (runs-cores k))
 
-  table-each : (job : ℕ) → job < length ss → 0 < shareAt ss job .first .0 + shareAt ss job .second .0
+  table-each : (job : ℕ) → job < length ss → 0 < shareAt ss job .first + shareAt ss job .second
       → 0 < countOf (λ (s : Slice). eqb (s .job) job) (tableOf w ss)
-  table-each job h some = go (ltb 0 (shareAt ss job .first .0)) refl
+  table-each job h some = go (ltb 0 (shareAt ss job .first)) refl
     where
-      go : (t : Bool) → ltb 0 (shareAt ss job .first .0) ≡ t → 0 < countOf (λ (s : Slice). eqb (s .job) job) (tableOf w ss)
+      go : (t : Bool) → ltb 0 (shareAt ss job .first) ≡ t → 0 < countOf (λ (s : Slice). eqb (s .job) job) (tableOf w ss)
       go true t =
           omega (arith, count-kind First job (tableOf w ss), table-jobs board ss fits First job h (ltb-true _ _ t))
       go false t =
-          let none : shareAt ss job .first .0 ≤ 0 = ltb-false _ _ t in
+          let none : shareAt ss job .first ≤ 0 = ltb-false _ _ t in
           omega (arith, count-kind Second job (tableOf w ss), table-jobs board ss fits Second job h (omega arith))
 
-  pub table-once : All (λ (s : Share). 0 < s .first .0 + s .second .0) ss → OncePerCore (length ss) (tableOf (board .window) ss)
+  pub table-once : All (λ (s : Ticks). 0 < s .first + s .second) ss → OncePerCore (length ss) (tableOf (board .window) ss)
   table-once some =
       let rows = table-timetable board ss fits in
       record {
         some = all-map (Inside board (length ss)) (λ (s : Slice). 0 < s .length) (λ s i. i .some) (tableOf w ss) (rows .inside);
         job = all-map (Inside board (length ss)) (λ (s : Slice). s .job < length ss) (λ s i. i .job) (tableOf w ss) (rows .inside);
-        each = λ job h. table-each job h (all-at (λ (s : Share). 0 < s .first .0 + s .second .0) (share 0 0) ss job h some);
+        each = λ job h. table-each job h (all-at (λ (s : Ticks). 0 < s .first + s .second) (share 0 0) ss job h some);
         places = rows .jobs;
         cores = table-cores;
       }

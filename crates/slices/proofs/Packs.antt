@@ -11,11 +11,11 @@ use lib.Dec.{leb, eqb}
 use lib.ListN.{length, length-append}
 use borrow.Author.Tests.{leb-true, leb-false}
 use Rattle.model.specs.Board.{sameKind}
-use Rattle.model.specs.Lists.{All, Pairs, sumOf}
+use Rattle.rows.specs.Lists.{All, Pairs, sumOf}
+use Rattle.rows.proofs.Lists.{all-map, all-append, pairs-append, sum-append}
 use Rattle.model.specs.Timetable.{isOf, ticksIn}
 use Rattle.model.specs.declared.Kind.{Kind}
 use Rattle.model.specs.declared.Slice.{Slice}
-use Rattle.model.proofs.Lists.{all-map, all-append, pairs-append, sum-append}
 use Rattle.slices.specs.Table.{Piece, cutOf, packed}
 use Rattle.slices.proofs.Cuts.{Cut, edges, cut-all, cut-ticks, cut-length, edges-most, edges-none}
 

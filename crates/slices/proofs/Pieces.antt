@@ -8,21 +8,20 @@ use native.Mathlib.Omega.{arith}
 use lib.Dec.{ltb, eqb}
 use lib.ListN.{length, getD, take, length-append}
 use borrow.Author.Tests.{ltb-false, eq-eqb, ne-eqb}
-use Rattle.model.specs.Lists.{sumOf, countOf}
+use Rattle.rows.specs.Lists.{sumOf, countOf}
+use Rattle.rows.proofs.Lists.{sum-append}
 use Rattle.model.specs.Movers.{isMover, isEven, movers}
-use Rattle.model.specs.Split.{share, ticksOn, ticksOf}
+use Rattle.model.specs.Split.{Ticks, share, ticksOn, ticksOf}
 use Rattle.model.specs.declared.Kind.{Kind}
 use Rattle.model.specs.declared.Kind.the-variants.{First, Second}
-use Rattle.model.specs.declared.Share.{Share}
-use Rattle.model.proofs.Lists.{sum-append}
 use Rattle.slices.specs.Table.{Piece, evenMover, otherMover, alone, chosen, piecesOf}
 use Rattle.slices.proofs.Packs.{AllAt, total, ticksFor}
 
 -- The ticks of a share on a kind if a test holds of it, and the share of a job.
-abbrev pub part : (Share → Bool) → Kind → Share → ℕ
+abbrev pub part : (Ticks → Bool) → Kind → Ticks → ℕ
 part test k s = cond (test s) (ticksOn k s) 0
 
-abbrev pub shareAt : List Share → ℕ → Share
+abbrev pub shareAt : List Ticks → ℕ → Ticks
 shareAt ss j = getD ss j (share 0 0)
 
 nothing : (t : Bool) → _≡_ {A = ℕ} (cond t 0 0) 0
@@ -30,8 +29,8 @@ nothing true = refl
 nothing false = refl
 
 -- ---- the jobs of one test
-module _ (test : Share → Bool) (k : Kind) where
-  chosen-sum : (f : Piece → ℕ) (i : ℕ) (s : Share) (ss : List Share) → sumOf f (chosen test k i (s ∷ ss))
+module _ (test : Ticks → Bool) (k : Kind) where
+  chosen-sum : (f : Piece → ℕ) (i : ℕ) (s : Ticks) (ss : List Ticks) → sumOf f (chosen test k i (s ∷ ss))
       ≡ cond (test s) (f (record { job = i; ticks = ticksOn k s })) 0 + sumOf f (chosen test k (i + 1) ss)
   unfolding chosen
   chosen-sum f i s ss = go (test s)
@@ -41,12 +40,12 @@ module _ (test : Share → Bool) (k : Kind) where
       go true = refl
       go false = omega arith
 
-  pub chosen-total : (i : ℕ) (ss : List Share) → total (chosen test k i ss) ≡ sumOf (part test k) ss
+  pub chosen-total : (i : ℕ) (ss : List Ticks) → total (chosen test k i ss) ≡ sumOf (part test k) ss
   unfolding chosen
   chosen-total i [] = refl
   chosen-total i (s ∷ ss) = omega (arith, chosen-sum (λ (p : Piece). p .ticks) i s ss, chosen-total (i + 1) ss)
 
-  chosen-length : (i : ℕ) (ss : List Share) → length (chosen test k i ss) ≡ countOf test ss
+  chosen-length : (i : ℕ) (ss : List Ticks) → length (chosen test k i ss) ≡ countOf test ss
   unfolding chosen
   chosen-length i [] = refl
   chosen-length i (s ∷ ss) = go (test s) (chosen-length (i + 1) ss)
@@ -57,14 +56,14 @@ module _ (test : Share → Bool) (k : Kind) where
       go true h = omega arith
       go false h = omega arith
 
-  chosen-none : (job i : ℕ) (ss : List Share) → job < i → ticksFor job (chosen test k i ss) ≡ 0
+  chosen-none : (job i : ℕ) (ss : List Ticks) → job < i → ticksFor job (chosen test k i ss) ≡ 0
   unfolding chosen
   chosen-none job i [] h = refl
   chosen-none job i (s ∷ ss) h =
       rw (chosen-sum (λ (p : Piece). cond (eqb (p .job) job) (p .ticks) 0) i s ss, ne-eqb i job (λ same. omega arith))
       (omega (arith, nothing (test s), chosen-none job (i + 1) ss (omega arith)))
 
-  chosen-for : (job i n : ℕ) (ss : List Share) → job ≡ i + n → n < length ss
+  chosen-for : (job i n : ℕ) (ss : List Ticks) → job ≡ i + n → n < length ss
       → ticksFor job (chosen test k i ss) ≡ part test k (shareAt ss n)
   unfolding chosen
   chosen-for job i n [] e h = absurd (omega arith)
@@ -75,7 +74,7 @@ module _ (test : Share → Bool) (k : Kind) where
       rw (chosen-sum (λ (p : Piece). cond (eqb (p .job) job) (p .ticks) 0) i s ss, ne-eqb i job (λ same. omega arith))
       (omega (arith, nothing (test s), chosen-for job (i + 1) n ss (omega arith) (omega arith)))
 
-  pub chosen-at : (P : ℕ → Piece → Type 0) (i o : ℕ) (ss : List Share)
+  pub chosen-at : (P : ℕ → Piece → Type 0) (i o : ℕ) (ss : List Ticks)
       → ((n a j : ℕ) → n < length ss → j ≡ i + n → a ≡ o + sumOf (part test k) (take n ss) → test (shareAt ss n) ≡ true
       → P a (record { job = j; ticks = ticksOn k (shareAt ss n) }))
       → AllAt P o (chosen test k i ss)
@@ -91,7 +90,7 @@ module _ (test : Share → Bool) (k : Kind) where
       go false t more = rw t (more o (rw t (omega arith)))
 
 -- ---- the three tests together
-parts-whole : (k : Kind) (w : ℕ) (s : Share)
+parts-whole : (k : Kind) (w : ℕ) (s : Ticks)
     → part (evenMover w) k s + (part (otherMover w) k s + part (alone k) k s) ≡ ticksOn k s
 parts-whole k w s = go (isMover s) (isEven w s) (ltb 0 (ticksOn k s)) refl
   where
@@ -104,7 +103,7 @@ parts-whole k w s = go (isMover s) (isEven w s) (ltb 0 (ticksOn k s)) refl
     go false e true t = omega arith
     go false e false t = omega (arith, ltb-false)
 
-module _ (k : Kind) (w : ℕ) (ss : List Share) where
+module _ (k : Kind) (w : ℕ) (ss : List Ticks) where
   pub pieces-for : (job : ℕ) → job < length ss → ticksFor job (piecesOf k w ss) ≡ ticksOn k (shareAt ss job)
   unfolding piecesOf
   pieces-for job h =
@@ -122,7 +121,7 @@ module _ (k : Kind) (w : ℕ) (ss : List Share) where
   unfolding piecesOf
   pieces-total = simp (sum-append, chosen-total) (sums ss)
     where
-      sums : (ss : List Share) → sumOf (part (evenMover w) k) ss + (sumOf (part (otherMover w) k) ss + sumOf (part (alone k) k) ss)
+      sums : (ss : List Ticks) → sumOf (part (evenMover w) k) ss + (sumOf (part (otherMover w) k) ss + sumOf (part (alone k) k) ss)
           ≡ ticksOf k ss
       sums [] = refl
       sums (s ∷ ss) = omega (arith, parts-whole k w s, sums ss)
@@ -132,7 +131,7 @@ module _ (k : Kind) (w : ℕ) (ss : List Share) where
   pieces-count = simp (length-append, chosen-length)
 
 -- A job has a piece on a kind, and a mover one more.
-pub pieces-few : (w : ℕ) (ss : List Share) → length (piecesOf First w ss) + length (piecesOf Second w ss) ≤ length ss + movers ss
+pub pieces-few : (w : ℕ) (ss : List Ticks) → length (piecesOf First w ss) + length (piecesOf Second w ss) ≤ length ss + movers ss
 pieces-few w ss = rw (pieces-count First w ss, pieces-count Second w ss) (counts ss)
   where
     one : (a b e : Bool) → cond (a && b && e) 1 0 + (cond (a && b && not e) 1 0 + cond (a && not (a && b)) 1 0)
@@ -143,7 +142,7 @@ pieces-few w ss = rw (pieces-count First w ss, pieces-count Second w ss) (counts
     one false true e = omega arith
     one false false e = omega arith
 
-    counts : (ss : List Share) → countOf (evenMover w) ss + (countOf (otherMover w) ss + countOf (alone First) ss)
+    counts : (ss : List Ticks) → countOf (evenMover w) ss + (countOf (otherMover w) ss + countOf (alone First) ss)
         + (countOf (evenMover w) ss + (countOf (otherMover w) ss + countOf (alone Second) ss)) ≤ length ss + movers ss
     counts [] = omega arith
-    counts (s ∷ ss) = omega (arith, one (ltb 0 (s .first .0)) (ltb 0 (s .second .0)) (isEven w s), counts ss)
+    counts (s ∷ ss) = omega (arith, one (ltb 0 (s .first)) (ltb 0 (s .second)) (isEven w s), counts ss)

@@ -8,20 +8,19 @@ use native.Mathlib.Omega.{arith}
 use lib.Dec.{ltb}
 use lib.ListN.{length, take}
 use borrow.Author.Tests.{ltb-true, eqb-true, not-true}
-use Rattle.model.specs.Lists.{sumOf, countOf}
+use Rattle.rows.specs.Lists.{sumOf, countOf}
+use Rattle.rows.proofs.Lists.{sum-take}
 use Rattle.model.specs.Movers.{isMover, isEven, unevens}
-use Rattle.model.specs.Split.{share, ticksOn}
+use Rattle.model.specs.Split.{Ticks, share, ticksOn}
 use Rattle.model.specs.declared.Kind.{Kind}
 use Rattle.model.specs.declared.Kind.the-variants.{First, Second}
-use Rattle.model.specs.declared.Share.{Share}
-use Rattle.model.proofs.Lists.{sum-take}
 use Rattle.model.proofs.Movers.{mover-some}
 use Rattle.slices.specs.Table.{Piece, evenMover, otherMover, alone, chosen, piecesOf}
 use Rattle.slices.proofs.Packs.{AllAt, at-append}
 use Rattle.slices.proofs.Pieces.{part, shareAt, chosen-total, chosen-at}
 
 -- Where the piece of job j begins: behind the shares that stand before its own.
-unfoldable pub offset : Kind → ℕ → List Share → ℕ → ℕ
+unfoldable pub offset : Kind → ℕ → List Ticks → ℕ → ℕ
 offset k w ss j =
     cond (isMover (shareAt ss j))
     (cond (isEven w (shareAt ss j)) (sumOf (part (evenMover w) k) (take j ss))
@@ -29,17 +28,17 @@ offset k w ss j =
     (sumOf (part (evenMover w) k) ss + sumOf (part (otherMover w) k) ss + sumOf (part (alone k) k) (take j ss))
 
 -- A piece, at a position, of a job of the set: it has all ticks of the job on the kind, and begins where the job's piece begins.
-pub record Placed (k : Kind) (w : ℕ) (ss : List Share) (o : ℕ) (p : Piece) : Type 0 where
+pub record Placed (k : Kind) (w : ℕ) (ss : List Ticks) (o : ℕ) (p : Piece) : Type 0 where
   pub job : p .job < length ss
   pub ticks : p .ticks ≡ ticksOn k (shareAt ss (p .job))
   pub some : 0 < p .ticks
   pub at : o ≡ offset k w ss (p .job)
 
-mover-ticks : (k : Kind) (s : Share) → isMover s ≡ true → 0 < ticksOn k s
+mover-ticks : (k : Kind) (s : Ticks) → isMover s ≡ true → 0 < ticksOn k s
 mover-ticks First s m = mover-some s m .0
 mover-ticks Second s m = mover-some s m .1
 
-pub pieces-placed : (k : Kind) (w : ℕ) (ss : List Share) → AllAt (Placed k w ss) 0 (piecesOf k w ss)
+pub pieces-placed : (k : Kind) (w : ℕ) (ss : List Ticks) → AllAt (Placed k w ss) 0 (piecesOf k w ss)
 unfolding piecesOf offset
 pieces-placed k w ss =
     at-append P 0 evens (chosen (evenMover w) k 0 ss) (chosen (otherMover w) k 0 ss ++ chosen (alone k) k 0 ss)
@@ -64,7 +63,7 @@ pieces-placed k w ss =
         rw q (record { job = l; ticks = refl; some = some; at = at })
 
     -- What chosen-at asks of the jobs of a test.
-    Case : (Share → Bool) → ℕ → Type 0
+    Case : (Ticks → Bool) → ℕ → Type 0
     Case test o =
         (n a j : ℕ) → n < length ss → j ≡ 0 + n → a ≡ o + sumOf (part test k) (take n ss) → test (shareAt ss n) ≡ true
         → Placed k w ss a (record { job = j; ticks = ticksOn k (shareAt ss n) })
@@ -85,20 +84,20 @@ pieces-placed k w ss =
         placed n a j l ej (ltb-true 0 (ticksOn k (shareAt ss n)) (both .0)) (rw (not-true (isMover (shareAt ss n)) (both .1)) ea)
 
 -- ---- the two kinds together
-evens-whole : (w : ℕ) (ss : List Share)
+evens-whole : (w : ℕ) (ss : List Ticks)
     → sumOf (part (evenMover w) First) ss + sumOf (part (evenMover w) Second) ss ≡ countOf (evenMover w) ss * w
 evens-whole w [] = omega arith
 evens-whole w (s ∷ ss) = go (isMover s) (isEven w s) refl (evens-whole w ss)
   where
     go : (m e : Bool) → isEven w s ≡ e
         → sumOf (part (evenMover w) First) ss + sumOf (part (evenMover w) Second) ss ≡ countOf (evenMover w) ss * w
-        → cond (m && e) (s .first .0) 0 + sumOf (part (evenMover w) First) ss + (cond (m && e) (s .second .0) 0 + sumOf (part (evenMover w) Second) ss)
+        → cond (m && e) (s .first) 0 + sumOf (part (evenMover w) First) ss + (cond (m && e) (s .second) 0 + sumOf (part (evenMover w) Second) ss)
         ≡ (cond (m && e) 1 0 + countOf (evenMover w) ss) * w
-    go true true e h = omega (arith, eqb-true (s .first .0 + s .second .0) w e)
+    go true true e h = omega (arith, eqb-true (s .first + s .second) w e)
     go true false e h = omega arith
     go false e eq h = omega arith
 
-count-none : (test : Share → Bool) (k : Kind) (ss : List Share) → countOf test ss ≡ 0 → sumOf (part test k) ss ≡ 0
+count-none : (test : Ticks → Bool) (k : Kind) (ss : List Ticks) → countOf test ss ≡ 0 → sumOf (part test k) ss ≡ 0
 count-none test k [] h = refl
 count-none test k (s ∷ ss) h = go (test s) h (count-none test k ss)
   where
@@ -107,7 +106,7 @@ count-none test k (s ∷ ss) h = go (test s) h (count-none test k ss)
     go true h more = absurd (omega arith)
     go false h more = omega (arith, more (omega arith))
 
-pub offset-whole : (w : ℕ) (ss : List Share) (j : ℕ) → unevens w ss ≤ 1 → j < length ss → isMover (shareAt ss j) ≡ true
+pub offset-whole : (w : ℕ) (ss : List Ticks) (j : ℕ) → unevens w ss ≤ 1 → j < length ss → isMover (shareAt ss j) ≡ true
     → (n : ℕ) × (offset First w ss j + offset Second w ss j ≡ n * w)
 unfolding offset
 offset-whole w ss j one h m = go (isEven w (shareAt ss j)) refl
@@ -117,7 +116,7 @@ offset-whole w ss j one h m = go (isEven w (shareAt ss j)) refl
     go false e =
         let this : _≡_ {A = ℕ} (cond (otherMover w (shareAt ss j)) 1 0) 1 = rw (m, e) in
         let ahead : countOf (otherMover w) (take j ss) ≡ 0 =
-        omega (arith, sum-take (λ (s : Share). cond (otherMover w s) 1 0) (share 0 0) ss j h) in (
+        omega (arith, sum-take (λ (s : Ticks). cond (otherMover w s) 1 0) (share 0 0) ss j h) in (
           countOf (evenMover w) ss,
           rw (m, e)
               (omega (

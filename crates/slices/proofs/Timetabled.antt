@@ -10,15 +10,14 @@ use native.Mathlib.Nat.{lt-of-mul-lt-mul-right, mul-le-mul-right}
 use native.Mathlib.Omega.{arith}
 use lib.ListN.{length, getD}
 use Rattle.model.specs.Board.{on, roomOf, sameKind}
-use Rattle.model.specs.Lists.{All, Pairs}
-use Rattle.model.specs.Split.{share, ticksOn}
+use Rattle.rows.specs.Lists.{All, Pairs}
+use Rattle.rows.proofs.Lists.{all-map, all-append, all-at, pairs-append, pairs-map, sum-append}
+use Rattle.model.specs.Split.{Ticks, share, ticksOn}
 use Rattle.model.specs.Timetable.{Runs, Apart, SameCore, Inside, isOf, ticksIn, Timetable}
 use Rattle.model.specs.declared.Board.{Board}
 use Rattle.model.specs.declared.Kind.{Kind}
 use Rattle.model.specs.declared.Kind.the-variants.{First, Second}
-use Rattle.model.specs.declared.Share.{Share}
 use Rattle.model.specs.declared.Slice.{Slice}
-use Rattle.model.proofs.Lists.{all-map, all-append, all-at, pairs-append, pairs-map, sum-append}
 use Rattle.model.proofs.Movers.{some-mover}
 use Rattle.slices.specs.Fits.{Fits}
 use Rattle.slices.specs.Table.{Piece, piecesOf, cutOf, packed, tableOf}
@@ -28,7 +27,7 @@ use Rattle.slices.proofs.Pieces.{shareAt, pieces-for, pieces-total}
 use Rattle.slices.proofs.Places.{offset, Placed, pieces-placed, offset-whole}
 
 -- The slices of a kind.
-abbrev pub rowsOn : Kind → ℕ → List Share → List Slice
+abbrev pub rowsOn : Kind → ℕ → List Ticks → List Slice
 rowsOn k w ss = packed k w 0 (piecesOf k w ss)
 
 -- The place of a tick on a core, in the kind's direction.
@@ -62,7 +61,7 @@ runs-apart w n c d x a b t1 t2 inside whole most run1 run2 =
     let high : c + d + 1 < n + 1 = lt-of-mul-lt-mul-right w (omega arith) in
     omega arith
 
-module _ (board : Board) (ss : List Share) where
+module _ (board : Board) (ss : List Ticks) where
   abbrev w : ℕ
   w = board .window
 
@@ -105,7 +104,7 @@ module _ (board : Board) (ss : List Share) where
 
   module _ (fits : Fits board ss) where
     both-short : (j : ℕ) → j < length ss → ticksOn First (shareAt ss j) + ticksOn Second (shareAt ss j) ≤ w
-    both-short j h = all-at (λ (s : Share). s .first .0 + s .second .0 ≤ w) (share 0 0) ss j h (fits .each)
+    both-short j h = all-at (λ (s : Ticks). s .first + s .second ≤ w) (share 0 0) ss j h (fits .each)
 
     short : (k : Kind) (j : ℕ) → j < length ss → ticksOn k (shareAt ss j) ≤ w
     short First j h = omega (arith, both-short j h)

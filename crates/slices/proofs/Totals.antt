@@ -8,22 +8,11 @@ use native.Mathlib.Omega.{arith}
 use lib.Dec.{eqb}
 use borrow.Author.Tests.{ne-eqb, eqb-true, eqb-false}
 use lib.ListN.{length}
-use Rattle.model.specs.Lists.{All, Pairs, countOf}
+use Rattle.rows.specs.Lists.{All, Pairs, countOf}
+use Rattle.rows.proofs.Lists.{all-map}
+use Rattle.rows.specs.Numbered.{sumBelow}
+use Rattle.rows.proofs.Numbered.{below-add, below-ones, below-zeros}
 use Rattle.model.specs.declared.Slice.{Slice}
-use Rattle.model.proofs.Lists.{all-map}
-use Rattle.slices.specs.Moves.{sumBelow}
-
-below-add : (f g : ℕ → ℕ) (n : ℕ) → sumBelow n (λ (j : ℕ). f j + g j) ≡ sumBelow n f + sumBelow n g
-below-add f g zero = refl
-below-add f g (suc n) = omega (arith, below-add f g n)
-
-pub below-ones : (f : ℕ → ℕ) (n : ℕ) → ((j : ℕ) → j < n → f j ≡ 1) → sumBelow n f ≡ n
-below-ones f zero h = refl
-below-ones f (suc n) h = omega (arith, below-ones f n (λ j l. h j (omega arith)), h n (omega arith))
-
-below-zeros : (n : ℕ) → sumBelow n (λ (j : ℕ). 0) ≡ 0
-below-zeros zero = refl
-below-zeros (suc n) = omega (arith, below-zeros n)
 
 -- A row is counted for its own job alone.
 bit-none : (k : ℕ) (t : Bool) (n : ℕ) → n ≤ k → sumBelow n (λ (j : ℕ). cond (eqb k j && t) 1 0) ≡ 0

@@ -8,15 +8,14 @@
 --   counted      a slice of a job of which a test holds
 --   movesOf      the outer and the inner moves of a job
 --   OncePerCore  every job below n has slices, is in one place at a time, and comes back to no core
---   sumBelow     the sum of a number of each job below n
 -- Assumes nothing.
 use mathlib.Core.Bool.{Bool, false, cond, not, _&&_}
 use mathlib.Core.List.{List, [], _∷_}
 use mathlib.Core.Path.{_≡_}
-use Prim.Native.Nat.{ℕ, zero, suc, _+_, _<_}
+use Prim.Native.Nat.{ℕ, _<_}
 use lib.Dec.{eqb, ltb}
 use Rattle.model.specs.Board.{sameKind}
-use Rattle.model.specs.Lists.{All, Pairs, countOf}
+use Rattle.rows.specs.Lists.{All, Pairs, countOf}
 use Rattle.model.specs.Timetable.{Apart, SameCore}
 use Rattle.model.specs.declared.Slice.{Slice}
 use Rattle.slices.specs.declared.Before.{Before}
@@ -57,10 +56,6 @@ counted test rows job s = eqb (s .job) job && test (beforeOf rows s) s
 
 abbrev pub movesOf : List Slice → ℕ → Moves
 movesOf rows job = record { outer = countOf (counted isOuter rows job) rows; inner = countOf (counted isInner rows job) rows }
-
-abbrev pub sumBelow : ℕ → (ℕ → ℕ) → ℕ
-sumBelow zero f = 0
-sumBelow (suc n) f = sumBelow n f + f n
 
 pub record OncePerCore (n : ℕ) (rows : List Slice) : Type 0 where
   pub some : All (λ (s : Slice). 0 < s .length) rows

@@ -14,33 +14,32 @@ use Prim.Native.Nat.{ℕ, _+_, _-_, _/_, _%_}
 use lib.Dec.{leb, ltb}
 use Rattle.model.specs.Board.{on}
 use Rattle.model.specs.Movers.{isMover, isEven}
-use Rattle.model.specs.Split.{ticksOn}
+use Rattle.model.specs.Split.{Ticks, ticksOn}
 use Rattle.model.specs.declared.Kind.{Kind}
 use Rattle.model.specs.declared.Kind.the-variants.{First, Second}
-use Rattle.model.specs.declared.Share.{Share}
 use Rattle.model.specs.declared.Slice.{Slice}
 
 pub record Piece : Type 0 where
   pub job : ℕ
   pub ticks : ℕ
 
-abbrev pub evenMover : ℕ → Share → Bool
+abbrev pub evenMover : ℕ → Ticks → Bool
 evenMover w s = isMover s && isEven w s
 
-abbrev pub otherMover : ℕ → Share → Bool
+abbrev pub otherMover : ℕ → Ticks → Bool
 otherMover w s = isMover s && not (isEven w s)
 
-abbrev pub alone : Kind → Share → Bool
+abbrev pub alone : Kind → Ticks → Bool
 alone k s = ltb 0 (ticksOn k s) && not (isMover s)
 
 -- The jobs, numbered from i, of which a test holds, with their ticks on a kind.
-unfoldable pub chosen : (Share → Bool) → Kind → ℕ → List Share → List Piece
+unfoldable pub chosen : (Ticks → Bool) → Kind → ℕ → List Ticks → List Piece
 chosen test k i [] = []
 chosen test k i (s ∷ ss) =
     let more : List Piece = chosen test k (i + 1) ss in
     cond (test s) (record { job = i; ticks = ticksOn k s } ∷ more) more
 
-unfoldable pub piecesOf : Kind → ℕ → List Share → List Piece
+unfoldable pub piecesOf : Kind → ℕ → List Ticks → List Piece
 piecesOf k w ss = chosen (evenMover w) k 0 ss ++ (chosen (otherMover w) k 0 ss ++ chosen (alone k) k 0 ss)
 
 -- The length begins at a core's place `at`, counted forward on the first kind and backward on the second.
@@ -60,5 +59,5 @@ unfoldable pub packed : Kind → (w o : ℕ) → List Piece → List Slice
 packed k w o [] = []
 packed k w o (p ∷ ps) = cutOf k w o p ++ packed k w (o + p .ticks) ps
 
-unfoldable pub tableOf : ℕ → List Share → List Slice
+unfoldable pub tableOf : ℕ → List Ticks → List Slice
 tableOf w ss = packed First w 0 (piecesOf First w ss) ++ packed Second w 0 (piecesOf Second w ss)

@@ -8,11 +8,11 @@ use lib.ListN.{drop, replicate}
 use borrow.Author.Tests.{le-leb, le-ltb, lt-ltb}
 use Rattle.model.specs.Limits.{jobsMost}
 use Rattle.model.specs.Refusal.{Answer, given, refused, saysRefusal}
+use Rattle.model.specs.Split.{Ticks}
 use Rattle.model.specs.declared.Kind.{Kind}
 use Rattle.model.specs.declared.Kind.the-variants.{First, Second}
 use Rattle.model.specs.declared.Job.{Job}
 use Rattle.model.specs.declared.Refusal.{Refusal}
-use Rattle.model.specs.declared.Share.{Share}
 use Rattle.split.specs.Steps.{hereSum, thereSum}
 use Rattle.split.specs.Shares.{sharesSeen, homeRows, homeTicks, settled, relieved, byOver, splitOf, none, Answers}
 use Rattle.split.specs.Columns.{Answered}
@@ -20,7 +20,7 @@ use Rattle.split.specs.Rows.{Row}
 use Rattle.split.specs.declared.Outcome.the-variants.{Shares}
 use Rattle.split.proofs.Homes.{home-there}
 
-pub answers-none : (refusal : Refusal) {answer : Answer (List Share)} → saysRefusal refusal ≡ answer → Answers answer (none refusal)
+pub answers-none : (refusal : Refusal) {answer : Answer (List Ticks)} → saysRefusal refusal ≡ answer → Answers answer (none refusal)
 answers-none refusal e = record { says = e; few = omega arith; rest1 = refl; rest2 = refl }
 
 -- What is left of zeros.
@@ -30,7 +30,7 @@ zeros-left (suc n) zero = let e : 0 - suc n ≡ 0 = omega arith in rw e
 zeros-left (suc n) (suc m) = let e : suc m - suc n ≡ m - n = omega arith in rw e (zeros-left n m)
 
 -- Shares that were put into columns of zeros.
-pub answers-shares : (n : ℕ) (s1 s2 : List ℕ) {answer : Answer (List Share)} → n ≤ jobsMost
+pub answers-shares : (n : ℕ) (s1 s2 : List ℕ) {answer : Answer (List Ticks)} → n ≤ jobsMost
     → Answered answer n (replicate jobsMost 0) (replicate jobsMost 0) s1 s2 true
     → Answers answer (record { outcome = Shares n; first = s1; second = s2 })
 answers-shares n s1 s2 few x = record {

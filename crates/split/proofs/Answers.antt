@@ -10,14 +10,16 @@ use lib.ListN.{length, getD, drop}
 use lib.Seq.{drop-at}
 use borrow.Author.Tests.{leb-true, leb-false, ne-eqb, le-ltb, lt-ltb}
 use Rattle.model.specs.Board.{on}
-use Rattle.model.specs.Lists.{All}
+use Rattle.rows.specs.Lists.{All}
+use Rattle.rows.specs.Upto.{upto, at}
+use Rattle.rows.proofs.Upto.{upto-length, upto-at, upto-same, upto-map, front}
 use Rattle.model.specs.Refusal.{given, refused}
+use Rattle.model.specs.Split.{Ticks}
 use Rattle.model.specs.declared.Kind.{Kind}
 use Rattle.model.specs.declared.Kind.the-variants.{First, Second}
 use Rattle.model.specs.declared.Job.{Job}
-use Rattle.model.specs.declared.Share.{Share}
-use Rattle.model.specs.Columns.{upto, at, jobAt, jobsIn, sharesIn}
-use Rattle.model.proofs.Columns.{upto-length, upto-at, upto-same, upto-map, front, Case, on-first, on-second, on-both, case}
+use Rattle.model.specs.Columns.{jobAt, jobsIn, sharesIn}
+use Rattle.model.proofs.Columns.{Case, on-first, on-second, on-both, case}
 use Rattle.legal.specs.Lawful.{LegalJob}
 use Rattle.split.specs.Home.{bothRow, atHome}
 use Rattle.split.specs.Steps.{hereSum, thereSum, noRow, stepsOf, Movable, Ready, Summed}
@@ -203,7 +205,7 @@ seen-shares : (k : Kind) (n : ℕ) (near far here there : List ℕ) → sharesIn
 seen-shares First n near far here there = sym (upto-map (shareOf First) n (λ i. rowAt (at near i) (at far i) (at here i) (at there i)))
 seen-shares Second n near far here there = sym (upto-map (shareOf Second) n (λ i. rowAt (at near i) (at far i) (at here i) (at there i)))
 
-picks : (p q : Bool) (n : ℕ) (s1 s2 : List ℕ) (ss : List Share) → sharesIn n s1 s2 ≡ ss → says (p && q) n s1 s2 ≡ cond p (cond q (given ss) (refused 6 0)) (refused 6 0)
+picks : (p q : Bool) (n : ℕ) (s1 s2 : List ℕ) (ss : List Ticks) → sharesIn n s1 s2 ≡ ss → says (p && q) n s1 s2 ≡ cond p (cond q (given ss) (refused 6 0)) (refused 6 0)
 picks true true n s1 s2 ss e = ap given e
 picks true false n s1 s2 ss e = refl
 picks false q n s1 s2 ss e = refl

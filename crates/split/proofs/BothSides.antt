@@ -12,12 +12,12 @@ use mathlib.Core.Path.{_≡_, refl}
 use Prim.Native.Nat.{ℕ, _+_}
 use native.Mathlib.Omega.{arith}
 use Rattle.model.specs.Refusal.{given, refused}
-use Rattle.model.specs.Split.{share, DoneBy, AllDone, ticksOf, Split}
+use Rattle.model.specs.Split.{Ticks, share, DoneBy, AllDone, ticksOf, Split}
 use Rattle.model.specs.declared.Kind.the-variants.{First, Second}
 use Rattle.model.specs.declared.Job.{Job}
-use Rattle.model.specs.declared.Share.{Share}
 use Rattle.model.proofs.BothSides.{board, B, F, S}
-use Rattle.legal.specs.Legal.{lowest, legalOf}
+use Rattle.legal.specs.Legal.{legalOf}
+use Rattle.rows.specs.Lists.{lowest}
 use Rattle.split.specs.Home.{stretchedAt}
 use Rattle.split.specs.Promise.{smaller, Accepted, Demands, Exactly}
 
@@ -71,13 +71,13 @@ accepted-second-not a = omega arith
 -- ==== Demands and Exactly
 -- The two shares of a set of two jobs.
 two-shares : {w room1 room2 : ℕ} {i j : Job} (s : Split w room1 room2 (i ∷ j ∷ []))
-    → (a : Share) × (b : Share) × DoneBy w (s .whole) i a × DoneBy w (s .whole) j b × (ticksOf First (s .shares) ≡ a .first .0 + b .first .0)
-    × (ticksOf Second (s .shares) ≡ a .second .0 + b .second .0)
+    → (a : Ticks) × (b : Ticks) × DoneBy w (s .whole) i a × DoneBy w (s .whole) j b × (ticksOf First (s .shares) ≡ a .first + b .first)
+    × (ticksOf Second (s .shares) ≡ a .second + b .second)
 two-shares {w} {i = i} {j = j} s = go (s .shares) (s .done)
   where
-    go : (ss : List Share) → AllDone w (s .whole) (i ∷ j ∷ []) ss
-        → (a : Share) × (b : Share) × DoneBy w (s .whole) i a × DoneBy w (s .whole) j b × (ticksOf First ss ≡ a .first .0 + b .first .0)
-        × (ticksOf Second ss ≡ a .second .0 + b .second .0)
+    go : (ss : List Ticks) → AllDone w (s .whole) (i ∷ j ∷ []) ss
+        → (a : Ticks) × (b : Ticks) × DoneBy w (s .whole) i a × DoneBy w (s .whole) j b × (ticksOf First ss ≡ a .first + b .first)
+        × (ticksOf Second ss ≡ a .second + b .second)
     go [] d = absurd d
     go (a ∷ []) d = absurd (d .1)
     go (a ∷ b ∷ []) d = (a, b, d .0, d .1 .0, omega arith, omega arith)

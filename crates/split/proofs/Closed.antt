@@ -17,7 +17,7 @@ use Rattle.split.specs.Steps.{hereSum, ahead, nextOf, movedOf, stepOf, s
 use Rattle.split.specs.Closed.{before, atTurn, turnSum, placedOf, closedOf}
 use Rattle.split.specs.Rows.{Row, Next, Nobody, At}
 use Rattle.split.proofs.NextRow.{Leads, IsNext, next-law}
-use Rattle.split.proofs.Each.{each-length, each-at, each-same, each-set, each-upto}
+use Rattle.rows.proofs.Numbered.{each-length, each-at, each-same, each-set, each-upto}
 use Rattle.split.proofs.Totals.{sum-set, set-each, waiting, waiting-most, waiting-none, none-waiting}
 use Rattle.split.proofs.Placed.{placed-still, placed-over, placed-within, keep-near, Goes, end, part, moved-goes}
 

@@ -10,9 +10,10 @@ use lib.Dec.{leb, ltb}
 use lib.ListN.{length, set, drop, length-set}
 use lib.Seq.{getD-set-same, getD-set-other, drop-set-lt}
 use borrow.Author.Tests.{ltb-true, ltb-false, lt-ltb, le-ltb}
-use Rattle.model.specs.Lists.{sumOf}
-use Rattle.model.specs.Columns.{at, jobAt, jobsIn}
-use Rattle.model.proofs.Columns.{upto-length, upto-at, upto-same, upto-more, upto-sum, upto-set, upto-map, fill}
+use Rattle.rows.specs.Lists.{sumOf}
+use Rattle.rows.specs.Upto.{at}
+use Rattle.rows.proofs.Upto.{upto-length, upto-at, upto-same, upto-more, upto-sum, upto-set, upto-map, fill}
+use Rattle.model.specs.Columns.{jobAt, jobsIn}
 use Rattle.split.specs.Home.{keepOf, bothRow, atHome}
 use Rattle.split.specs.Steps.{hereSum, thereSum, sumMost, ahead, better, nextFrom, nextOf, noRow, movedOf, stepOf, stepsOf, Movable, Ready, Asks, Summed}
 use Rattle.split.specs.Columns.{rowAt, rowsIn, bare, bestOf, betterOf, Found, Advanced, Stepped, endOf, GoneHome}

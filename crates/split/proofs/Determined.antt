@@ -9,16 +9,16 @@ use native.Mathlib.Nat.{le-of-suc-le-suc}
 use native.Mathlib.Omega.{arith}
 use lib.ListN.{length, take, drop, replicate}
 use Rattle.model.specs.Board.{on}
-use Rattle.model.specs.Columns.{upto, at, sharesIn, ticks}
+use Rattle.model.specs.Columns.{sharesIn, ticks}
+use Rattle.rows.specs.Upto.{upto, at}
+use Rattle.rows.proofs.Upto.{upto-length, upto-map}
 use Rattle.model.specs.Limits.{jobsMost}
 use Rattle.model.specs.Refusal.{Answer}
-use Rattle.model.specs.Split.{share, ticksOn}
+use Rattle.model.specs.Split.{Ticks, share, ticksOn}
 use Rattle.model.specs.declared.Board.{Board}
 use Rattle.model.specs.declared.Job.{Job}
-use Rattle.model.specs.declared.Share.{Share}
 use Rattle.model.specs.declared.Kind.{Kind}
 use Rattle.model.specs.declared.Kind.the-variants.{First, Second}
-use Rattle.model.proofs.Columns.{upto-length, upto-map}
 use Rattle.model.proofs.Determined.{Once, once, said-once, refusal-back, answerOf, rows-back}
 use Rattle.split.specs.Promise.{Promised}
 use Rattle.split.specs.Shares.{sharesOf, balanceOf, saysOutcome, rowsOf, none, saysBalanced}
@@ -30,7 +30,7 @@ use Rattle.split.specs.declared.Outcome.the-variants.{Shares, Refused}
 use Rattle.split.specs.declared.Shared.{Shared}
 
 -- As many shares as are given, in columns with zeros behind them.
-abbrev sharedOf : Answer (List Share) → Shared
+abbrev sharedOf : Answer (List Ticks) → Shared
 sharedOf = answerOf (λ ss. record { outcome = Shares (length ss); first = ticks First ss; second = ticks Second ss }) none
 
 -- The front of a column, from the shares.

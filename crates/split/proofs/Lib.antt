@@ -16,7 +16,6 @@ pub mod StepsEnd
 pub mod Smaller
 pub mod Demands
 pub mod Promises
-pub mod Each
 pub mod Placed
 pub mod Closed
 pub mod MoreRoom

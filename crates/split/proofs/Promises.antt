@@ -7,15 +7,15 @@ use mathlib.Core.Path.{_≡_, refl}
 use Prim.Native.Nat.{ℕ, _+_, _-_, _≤_, _<_}
 use lib.ListN.{length, getD}
 use Rattle.model.specs.Board.{roomOf}
+use Rattle.model.specs.Empty.{noJob}
 use Rattle.model.specs.Movers.{movers, unevens}
 use Rattle.model.specs.Refusal.{given, refused}
-use Rattle.model.specs.Split.{share, DoneBy, ticksOf, Split}
+use Rattle.model.specs.Split.{Ticks, share, DoneBy, ticksOf, Split}
 use Rattle.model.specs.declared.Kind.{Kind}
 use Rattle.model.specs.declared.Kind.the-variants.{First, Second}
 use Rattle.model.specs.declared.Board.{Board}
 use Rattle.model.specs.declared.Job.{Job}
 use Rattle.model.specs.declared.Job.the-variants.{OnlyFirst}
-use Rattle.model.specs.declared.Share.{Share}
 use Rattle.model.proofs.Splits.{all-done-length, all-done-at}
 use Rattle.legal.specs.Legal.{legalOf}
 use Rattle.split.specs.Promise.{stretchedOn, Accepted, Promised}
@@ -24,15 +24,15 @@ use Rattle.split.specs.declared.Shared.{Shared}
 
 module _ {board : Board} {n : ℕ} {js : List Job} {r : Shared} (p : Promised board n js r) where
   -- ==== Demand 2, as far as it is of shares: in every answer that gives shares ss, each job gets its whole work.
-  module _ {ss : List Share} (says : saysShared r ≡ given ss) where
+  module _ {ss : List Ticks} (says : saysShared r ≡ given ss) where
     accepted : Accepted board js ss
     accepted = rw says at (p .demands)
 
     -- Job j, and its share. What is read past the end of the set is never asked for.
     abbrev jobAt : ℕ → Job
-    jobAt j = getD js j (OnlyFirst (record { 0 = 0 }))
+    jobAt j = getD js j noJob
 
-    abbrev shareAt : ℕ → Share
+    abbrev shareAt : ℕ → Ticks
     shareAt j = getD ss j (share 0 0)
 
     -- There is a share for each job,
@@ -41,7 +41,7 @@ module _ {board : Board} {n : ℕ} {js : List Job} {r : Shared} (p : Promised bo
 
     -- which does its whole work in whole ticks,
     pub job-whole : (j : ℕ) → j < length js → DoneBy (board .window) 1 (jobAt j) (shareAt j)
-    job-whole j l = all-done-at (board .window) 1 (OnlyFirst (record { 0 = 0 })) (share 0 0) js ss j l (accepted .whole .done)
+    job-whole j l = all-done-at (board .window) 1 noJob (share 0 0) js ss j l (accepted .whole .done)
 
     -- and all shares together are within each kind's room.
     pub kind-within : (kind : Kind) → ticksOf kind ss ≤ roomOf board kind

@@ -11,10 +11,10 @@ use Rattle.model.specs.Board.{roomOf}
 use Rattle.model.specs.Columns.{jobsIn, costs, seen}
 use Rattle.model.specs.Limits.{jobsMost}
 use Rattle.model.specs.Refusal.{Answer, given, refused, andThen}
+use Rattle.model.specs.Split.{Ticks}
 use Rattle.model.specs.declared.Board.{Board}
 use Rattle.model.specs.declared.Job.{Job}
 use Rattle.model.specs.declared.Kind.the-variants.{First, Second}
-use Rattle.model.specs.declared.Share.{Share}
 use Rattle.legal.specs.Legal.{legalOf}
 use Rattle.legal.proofs.Seen.{legal-seen, seen-same, legal-costs, costs-same}
 use Rattle.split.specs.Shares.{splitOf, sharesOf, balanceOn, balanceOf}
@@ -32,7 +32,7 @@ module _ {A : Type 0} (f : List Job → Answer A) (board : Board) (n : ℕ) (js'
   after e = rw e (either (legalOf board n js) refl)
 
 module _ (board : Board) (n : ℕ) where
-  abbrev shares : List Job → Answer (List Share)
+  abbrev shares : List Job → Answer (List Ticks)
   shares js = splitOf (board .window) (roomOf board First) (roomOf board Second) js
 
   abbrev balance : List Job → Answer Balance

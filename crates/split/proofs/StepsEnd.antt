@@ -9,7 +9,8 @@ use native.Mathlib.Omega.{arith}
 use lib.Dec.{leb}
 use lib.ListN.{length, getD, set, length-set}
 use borrow.Author.Tests.{leb-true, leb-false}
-use Rattle.model.specs.Lists.{sumOf}
+use Rattle.model.specs.Empty.{noJob}
+use Rattle.rows.specs.Lists.{sumOf}
 use Rattle.model.specs.Movers.{unevens}
 use Rattle.model.specs.Split.{AllDone}
 use Rattle.model.specs.declared.Kind.{Kind}
@@ -22,7 +23,7 @@ use Rattle.split.proofs.NextRow.{Leads, IsNext, next-law}
 use Rattle.split.proofs.StepByStep.{steps-within}
 use Rattle.split.proofs.Number.{part-most}
 use Rattle.split.proofs.View.{see, DoneSeen}
-use Rattle.split.proofs.Price.{Priced, priced-more, Each, noJob, each-priced, each-does}
+use Rattle.split.proofs.Price.{Priced, priced-more, Each, each-priced, each-does}
 use Rattle.split.proofs.Totals.{sum-set, set-each, waiting, waiting-none, none-waiting, unevens-none, unevens-set}
 use Rattle.split.proofs.RowPrices.{Waits, Stand, stand-later, far-stands, part-does}
 

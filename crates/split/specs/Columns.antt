@@ -13,12 +13,13 @@ use mathlib.Core.List.{List, _++_, map}
 use Prim.Native.Nat.{ℕ, _+_, _*_, _≤_, _<_}
 use lib.Dec.{ltb, eqb}
 use lib.ListN.{set, drop}
-use Rattle.model.specs.Columns.{upto, at, jobAt, jobsIn, sharesIn}
+use Rattle.model.specs.Columns.{jobAt, jobsIn, sharesIn}
+use Rattle.rows.specs.Upto.{upto, at}
 use Rattle.model.specs.Refusal.{Answer, given, refused}
 use Rattle.model.specs.Board.{on}
+use Rattle.model.specs.Split.{Ticks}
 use Rattle.model.specs.declared.Kind.{Kind}
 use Rattle.model.specs.declared.Kind.the-variants.{First}
-use Rattle.model.specs.declared.Share.{Share}
 use Rattle.split.specs.Home.{bothRow, atHome}
 use Rattle.split.specs.Steps.{hereSum, thereSum, nextOf, movedOf, stepsOf, Summed}
 use Rattle.split.specs.Shares.{homeRows, settled}
@@ -86,7 +87,7 @@ pub record GoneHome (n : ℕ) (c1 c2 s1 s2 s1' s2' : List ℕ) (r : Sums) : Type
   pub second : s2' ≡ upto n (λ i. atHome First (jobAt (at c1 i) (at c2 i)) .there) ++ drop n s2
   pub sums : Summed (homeRows First (jobsIn n c1 c2)) r
 
-abbrev pub says : Bool → ℕ → (s1 s2 : List ℕ) → Answer (List Share)
+abbrev pub says : Bool → ℕ → (s1 s2 : List ℕ) → Answer (List Ticks)
 says true n s1 s2 = given (sharesIn n s1 s2)
 says false n s1 s2 = refused 6 0
 
@@ -97,7 +98,7 @@ pub record Relieved (n w room away : ℕ) (far here there here' there' : List �
   pub rest-here : drop n here' ≡ drop n here
   pub rest-there : drop n there' ≡ drop n there
 
-pub record Answered (answer : Answer (List Share)) (n : ℕ) (s1 s2 s1' s2' : List ℕ) (r : Bool) : Type 0 where
+pub record Answered (answer : Answer (List Ticks)) (n : ℕ) (s1 s2 s1' s2' : List ℕ) (r : Bool) : Type 0 where
   pub is : says r n s1' s2' ≡ answer
   pub rest1 : drop n s1' ≡ drop n s1
   pub rest2 : drop n s2' ≡ drop n s2

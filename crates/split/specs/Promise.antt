@@ -11,13 +11,12 @@ use Prim.Native.Nat.{ℕ, _+_, _-_, _≤_}
 use Rattle.model.specs.Board.{roomOf}
 use Rattle.model.specs.Movers.{movers, unevens}
 use Rattle.model.specs.Refusal.{Answer, given, refused}
-use Rattle.model.specs.Lists.{sumOf}
-use Rattle.model.specs.Split.{Split, WholeSplit}
+use Rattle.rows.specs.Lists.{sumOf}
+use Rattle.model.specs.Split.{Ticks, Split, WholeSplit}
 use Rattle.model.specs.declared.Kind.{Kind}
 use Rattle.model.specs.declared.Kind.the-variants.{First, Second}
 use Rattle.model.specs.declared.Board.{Board}
 use Rattle.model.specs.declared.Job.{Job}
-use Rattle.model.specs.declared.Share.{Share}
 use Rattle.legal.specs.Legal.{legalOf}
 use Rattle.split.specs.Home.{stretchedAt}
 use Rattle.split.specs.Shares.{sharesOf, saysShared, Answers}
@@ -38,17 +37,17 @@ SplitOn board js = Split (board .window) (roomOf board First) (roomOf board Seco
 abbrev pub SmallerSplit : Board → List Job → Type 0
 SmallerSplit board js = Split (board .window) (smaller board js First) (smaller board js Second) js
 
-pub record Accepted (board : Board) (js : List Job) (ss : List Share) : Type 0 where
+pub record Accepted (board : Board) (js : List Job) (ss : List Ticks) : Type 0 where
   pub whole : WholeSplit (board .window) (roomOf board First) (roomOf board Second) js ss
   pub one-uneven : unevens (board .window) ss ≤ 1
   pub few-movers : movers ss ≤ board .first + board .second
 
-abbrev pub Demands : Board → List Job → Answer (List Share) → Type 0
+abbrev pub Demands : Board → List Job → Answer (List Ticks) → Type 0
 Demands board js (given ss) = Accepted board js ss
 Demands board js (refused number place) = number ≡ 6 → SmallerSplit board js → ⊥
 
 -- With no stretched job, a legal set is refused for room exactly when no split exists at all.
-abbrev pub Exactly : Board → ℕ → List Job → Answer (List Share) → Type 0
+abbrev pub Exactly : Board → ℕ → List Job → Answer (List Ticks) → Type 0
 Exactly board n js answer =
     legalOf board n js ≡ given tt → stretchedOn board js First ≡ 0 → stretchedOn board js Second ≡ 0
     → (answer ≡ refused 6 0) ↔ (SplitOn board js → ⊥)

@@ -17,12 +17,11 @@ use lib.ListN.{length, drop, replicate}
 use Rattle.model.specs.Board.{on, roomOf}
 use Rattle.model.specs.Columns.{sharesIn}
 use Rattle.model.specs.Refusal.{Answer, given, refused, saysRefusal, andThen}
-use Rattle.model.specs.Split.{share}
+use Rattle.model.specs.Split.{Ticks, share}
 use Rattle.model.specs.declared.Kind.{Kind}
 use Rattle.model.specs.declared.Kind.the-variants.{First, Second}
 use Rattle.model.specs.declared.Board.{Board}
 use Rattle.model.specs.declared.Job.{Job}
-use Rattle.model.specs.declared.Share.{Share}
 use Rattle.model.specs.declared.Refusal.{Refusal}
 use Rattle.model.specs.Limits.{jobsMost}
 use Rattle.legal.specs.Legal.{legalOf}
@@ -36,10 +35,10 @@ use Rattle.split.specs.declared.Balance.{Balance}
 use Rattle.split.specs.declared.Balanced.{Balanced}
 use Rattle.split.specs.declared.Balanced.the-variants.{Given, Refused as NoBalance}
 
-abbrev pub shareOf : Kind → Row → Share
+abbrev pub shareOf : Kind → Row → Ticks
 shareOf k r = share (on k (r .here) (r .there)) (on k (r .there) (r .here))
 
-abbrev pub sharesSeen : Kind → List Row → List Share
+abbrev pub sharesSeen : Kind → List Row → List Ticks
 sharesSeen k rs = map (shareOf k) rs
 
 -- All jobs at home, seen from a kind, and their ticks on it.
@@ -61,26 +60,26 @@ abbrev pub otherOver : {A : Type 0} → Kind → Answer A
 otherOver k = refused 6 0
 
 -- The steps took jobs from kind k until it was within its room. If it never was, refuse; then refuse if the other kind is over.
-unfoldable pub settled : Kind → (room away : ℕ) → List Row → Answer (List Share)
+unfoldable pub settled : Kind → (room away : ℕ) → List Row → Answer (List Ticks)
 settled k room away rs =
     cond (leb (hereSum rs) room) (cond (leb (thereSum rs) away) (given (sharesSeen k rs)) (otherOver k)) (stillOver k)
 
 -- Kind k is over at home, and the other is not.
-abbrev pub relieved : Kind → (w room away : ℕ) → List Job → Answer (List Share)
+abbrev pub relieved : Kind → (w room away : ℕ) → List Job → Answer (List Ticks)
 relieved k w room away js = settled k room away (stepsOf (length js) w room (homeRows k js))
 
 -- By whether the first kind is over at home, and whether the second is.
-unfoldable pub byOver : Bool → Bool → (w room1 room2 : ℕ) → List Job → Answer (List Share)
+unfoldable pub byOver : Bool → Bool → (w room1 room2 : ℕ) → List Job → Answer (List Ticks)
 byOver true true w room1 room2 js = bothOver
 byOver true false w room1 room2 js = relieved First w room1 room2 js
 byOver false true w room1 room2 js = relieved Second w room2 room1 js
 byOver false false w room1 room2 js = given (sharesSeen First (homeRows First js))
 
-abbrev pub splitOf : (w room1 room2 : ℕ) → List Job → Answer (List Share)
+abbrev pub splitOf : (w room1 room2 : ℕ) → List Job → Answer (List Ticks)
 splitOf w room1 room2 js =
     byOver (ltb room1 (homeTicks First js)) (ltb room2 (homeTicks Second js)) w room1 room2 js
 
-abbrev pub sharesOf : Board → ℕ → List Job → Answer (List Share)
+abbrev pub sharesOf : Board → ℕ → List Job → Answer (List Ticks)
 sharesOf board n js =
     andThen (legalOf board n js) (λ (_ : Unit {0}). splitOf (board .window) (roomOf board First) (roomOf board Second) js)
 
@@ -93,18 +92,18 @@ balanceOf board n js =
     andThen (legalOf board n js) (λ (_ : Unit {0}). given (record { first = balanceOn board js First; second = balanceOn board js Second }))
 
 -- Shares are given in two columns, the ticks on each kind.
-abbrev pub saysOutcome : Outcome → (s1 s2 : List ℕ) → Answer (List Share)
+abbrev pub saysOutcome : Outcome → (s1 s2 : List ℕ) → Answer (List Ticks)
 saysOutcome (Shares n) s1 s2 = given (sharesIn n s1 s2)
 saysOutcome (Refused r) s1 s2 = saysRefusal r
 
-abbrev pub saysShared : Shared → Answer (List Share)
+abbrev pub saysShared : Shared → Answer (List Ticks)
 saysShared r = saysOutcome (r .outcome) (r .first) (r .second)
 
 abbrev pub rowsOf : Outcome → ℕ
 rowsOf (Shares n) = n
 rowsOf (Refused r) = 0
 
-pub record Answers (answer : Answer (List Share)) (r : Shared) : Type 0 where
+pub record Answers (answer : Answer (List Ticks)) (r : Shared) : Type 0 where
   pub says : saysShared r ≡ answer
   pub few : rowsOf (r .outcome) ≤ jobsMost
   pub rest1 : drop (rowsOf (r .outcome)) (r .first) ≡ replicate (jobsMost - rowsOf (r .outcome)) 0

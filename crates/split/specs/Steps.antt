@@ -12,7 +12,7 @@ use mathlib.Core.List.{List, [], _∷_}
 use Prim.Native.Nat.{ℕ, zero, suc, _+_, _-_, _*_, _≤_, _<_}
 use lib.Dec.{leb, ltb}
 use lib.ListN.{length, getD, set}
-use Rattle.model.specs.Lists.{sumOf}
+use Rattle.rows.specs.Lists.{sumOf}
 use Rattle.split.specs.Home.{ceil, keepOf, giveOf}
 use Rattle.split.specs.Rows.{Row, Next, Nobody, At}
 use Rattle.split.specs.declared.Sums.{Sums}

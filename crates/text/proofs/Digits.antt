@@ -10,7 +10,7 @@ use borrow.Author.Tests.{leb-true, eqb-true}
 use lib.Dec.{leb, eqb}
 use lib.ListN.{length, take, drop, getD, length-append, take-append-drop, drop-of-length-le}
 use lib.Seq.{drop-cons, drop-drop, length-take-le}
-use Rattle.model.specs.Lists.{All}
+use Rattle.rows.specs.Lists.{All}
 use Rattle.text.specs.Hex.{Maybe, none, some, nibbleOf, byteOf, atFront, pairsOf, bytesOf, numberFrom, numberIn}
 use Rattle.text.specs.Reader.{lineLength, lineIn, isThere, valueOf, digitThen, digitsIn, hexFrom, hexIn, isEnd, Spells, Numbered, HoldsRecord}
 use Rattle.text.specs.declared.reader.Numbers.{Numbers}

@@ -11,7 +11,8 @@ use native.Mathlib.Omega.{arith}
 use borrow.Author.Tests.{ltb-false}
 use lib.Dec.{ltb}
 use lib.ListN.{length, drop}
-use Rattle.model.specs.Columns.{upto, at, costOn, costs}
+use Rattle.model.specs.Columns.{costOn, costs}
+use Rattle.rows.specs.Upto.{upto, at}
 use Rattle.model.specs.Limits.{jobsMost}
 use Rattle.model.specs.Refusal.{Answer, given, saysRefusal}
 use Rattle.model.specs.declared.Board.{Board}

@@ -6,7 +6,7 @@ use Prim.Native.Nat.{ℕ, _+_, _*_}
 use native.Mathlib.Omega.{arith}
 use lib.ListN.{length, length-append}
 use lib.Seq.{sets}
-use Rattle.model.specs.declared.Share.{Share}
+use Rattle.model.specs.Split.{Ticks}
 use Rattle.model.specs.declared.Slice.{Slice}
 use Rattle.text.specs.Hex.{digitsOf, lineOf, textOf}
 use Rattle.text.specs.Output.{countRecord, shareRecords, sliceRecord, planText}
@@ -17,7 +17,7 @@ unfolding textOf
 text-append [] qs = refl
 text-append (r ∷ rs) qs = rw (text-append rs qs) (sym (append-assoc (lineOf r) (textOf rs) (textOf qs)))
 
-shares-length : (i : ℕ) (ss : List Share) → length (textOf (shareRecords i ss)) ≡ 13 * length ss
+shares-length : (i : ℕ) (ss : List Ticks) → length (textOf (shareRecords i ss)) ≡ 13 * length ss
 unfolding digitsOf textOf shareRecords
 shares-length i [] = refl
 shares-length i (s ∷ ss) = omega (arith, shares-length (i + 1) ss)
@@ -28,7 +28,7 @@ slices-length [] = refl
 slices-length (s ∷ rows) = omega (arith, slices-length rows)
 
 -- of so many shares and rows
-module _ (ss : List Share) (rows : List Slice) (n k : ℕ) (n-long : length ss ≡ n) (k-long : length rows ≡ k) where
+module _ (ss : List Ticks) (rows : List Slice) (n k : ℕ) (n-long : length ss ≡ n) (k-long : length rows ≡ k) where
   pub plan-length : length (planText ss rows) ≡ 7 + 13 * n + 17 * k
   unfolding digitsOf textOf
   plan-length =

@@ -8,7 +8,7 @@ use native.Mathlib.Omega.{arith}
 use borrow.Author.Tests.{ltb-true, ltb-false, le-leb, lt-leb, ne-eqb}
 use lib.Dec.{ltb, eqb}
 use lib.ListN.{length}
-use Rattle.model.specs.Lists.{All}
+use Rattle.rows.specs.Lists.{All}
 use Rattle.text.specs.Hex.{some, linesOf, nibbleOf, pairsOf, bytesOf, glyphOf, digitsOf, lineOf, textOf, two, numberFrom, numberIn}
 
 -- A record is some bytes.

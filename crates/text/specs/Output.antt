@@ -16,8 +16,8 @@ use lib.ListN.{length, drop}
 use Rattle.model.specs.Board.{on}
 use Rattle.model.specs.Limits.{jobsMost, slicesMost}
 use Rattle.model.specs.Refusal.{Answer, given, refused, saysRefusal, numberOf, placeOf}
+use Rattle.model.specs.Split.{Ticks}
 use Rattle.model.specs.declared.Refusal.{Refusal}
-use Rattle.model.specs.declared.Share.{Share}
 use Rattle.model.specs.declared.Slice.{Slice}
 use Rattle.text.specs.Hex.{two, textOf}
 use Rattle.text.specs.declared.Written.{Written}
@@ -26,23 +26,23 @@ use Rattle.text.specs.declared.Written.the-variants.{Bytes, Refused}
 abbrev pub countRecord : (jobs slices : ℕ) → List ℕ
 countRecord jobs slices = 16 ∷ jobs ∷ slices ∷ []
 
-abbrev pub shareRecord : ℕ → Share → List ℕ
-shareRecord job s = 17 ∷ job ∷ (two (s .first .0) ++ two (s .second .0))
+abbrev pub shareRecord : ℕ → Ticks → List ℕ
+shareRecord job s = 17 ∷ job ∷ (two (s .first) ++ two (s .second))
 
 abbrev pub sliceRecord : Slice → List ℕ
 sliceRecord s = 18 ∷ s .job ∷ on (s .kind) 1 2 ∷ s .core ∷ (two (s .start) ++ two (s .length))
 
-unfoldable pub shareRecords : ℕ → List Share → List (List ℕ)
+unfoldable pub shareRecords : ℕ → List Ticks → List (List ℕ)
 shareRecords i [] = []
 shareRecords i (s ∷ ss) = shareRecord i s ∷ shareRecords (i + 1) ss
 
-abbrev pub planRecords : List Share → List Slice → List (List ℕ)
+abbrev pub planRecords : List Ticks → List Slice → List (List ℕ)
 planRecords ss rows = countRecord (length ss) (length rows) ∷ (shareRecords 0 ss ++ map sliceRecord rows)
 
 abbrev pub refusedRecords : (number place : ℕ) → List (List ℕ)
 refusedRecords number place = (31 ∷ number ∷ place ∷ []) ∷ []
 
-abbrev pub planText : List Share → List Slice → List ℕ
+abbrev pub planText : List Ticks → List Slice → List ℕ
 planText ss rows = textOf (planRecords ss rows)
 
 abbrev pub refusedText : (number place : ℕ) → List ℕ

@@ -20,7 +20,7 @@ use Prim.Native.Nat.{ℕ, suc, _+_, _*_, _<_}
 use lib.Dec.{eqb}
 use lib.ListN.{length, take, drop}
 use Rattle.model.specs.Columns.{costOn}
-use Rattle.model.specs.Lists.{All}
+use Rattle.rows.specs.Lists.{All}
 use Rattle.model.specs.Refusal.{Answer, given, refused, saysRefusal, andThen}
 use Rattle.model.specs.declared.Board.{Board}
 use Rattle.model.specs.declared.Job.{Job}

@@ -4,7 +4,7 @@ ghost use mathlib.Core.List.{_++_};
 ghost use mathlib.Core.Path.{_≡_};
 ghost use Prim.Native.Nat.{_+_, _≤_};
 ghost use lib.ListN.{length, drop};
-ghost use Rattle.model.specs.Columns.{upto, at};
+ghost use Rattle.rows.specs.Upto.{upto, at};
 ghost use Rattle.model.specs.Limits.{jobsMost};
 ghost use Rattle.model.specs.Refusal.{andThen};
 ghost use Rattle.text.specs.Hex.{linesOf, nibbleOf, bytesOf};
@@ -138,7 +138,7 @@ fn is_line(text: &[u8], from: usize, end: usize) -> bool
 }
 
 // A job by its allowed byte. The cost of a kind that is not allowed has to be 0.
-fn job_in(allowed: u32, c1: u32, c2: u32, i: u8) -> Line
+fn job_in(allowed: u32, c1: u32, c2: u32, i: u32) -> Line
     ensures { λ r. ⌜ saysLine r ≡ recordSays i (entryJob (jobIn allowed c1 c2)) ⌝ }
 {
     match allowed {
@@ -162,7 +162,7 @@ fn job_in(allowed: u32, c1: u32, c2: u32, i: u8) -> Line
 }
 
 // What a record says, by its first byte and how many digits its line has.
-fn record_says(size: usize, line: Numbers, i: u8) -> Line
+fn record_says(size: usize, line: Numbers, i: u32) -> Line
     ensures { λ r. ⌜ SaysRecord size line i r ⌝ }
 {
     let tag = line.head / 256;
@@ -185,7 +185,7 @@ fn record_says(size: usize, line: Numbers, i: u8) -> Line
 }
 
 // Line i, which starts at `from`.
-fn entry(text: &[u8], from: usize, line: Numbers, i: u8) -> Line
+fn entry(text: &[u8], from: usize, line: Numbers, i: u32) -> Line
     requires { ⌜ Numbered (digitsIn (drop from (now text))) from line ⌝ }
     ensures { λ r. ⌜ saysLine r ≡ lineSays i (lineIn (drop from (now (text .entry)))) ⌝ }
 {
@@ -201,7 +201,7 @@ fn row_of(text: &[u8], from: usize, line: Numbers, n: usize) -> Row
     requires { ⌜ (n ≤ jobsMost) × Numbered (digitsIn (drop from (now text))) from line ⌝ }
     ensures { λ r. ⌜ saysRow r ≡ costsSaid (andThen (lineSays (n + 2) (lineIn (drop from (now (text .entry))))) (asJob (n + 2) n)) ⌝ }
 {
-    let i = n as u8 + 2;
+    let i = n as u32 + 2;
     match entry(text, from, line, i) {
         Line::Refused(refusal) => Row::Refused(refusal),
         Line::Says(says) => match says {

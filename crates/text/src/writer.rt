@@ -16,7 +16,7 @@ ghost use Rattle.model.specs.Limits.{jobsMost, slicesMost};
 ghost use Rattle.model.specs.Packed.{sliceIn, slicesIn};
 ghost use Rattle.model.specs.Split.{share};
 ghost use Rattle.text.specs.Hex.{glyphOf, digitsOf, lineOf, textOf};
-ghost use Rattle.text.specs.Output.{shareRecord, shareRecords, sliceRecord, planText, refusalText, Writes};
+ghost use Rattle.text.specs.Output.{shareRecord, shareRecords, sliceRecord, planText, refusedText, Writes};
 
 // The bytes of a line for each record: two digits a byte, and a line feed.
 const COUNT_LINE: usize = 7;
@@ -55,18 +55,14 @@ pub fn write_plan(
     Written::Bytes(size)
 }
 
-// Writes a refusal's line: 1f with the number and the place.
-pub fn write_refusal(refusal: Refusal, text: &mut [u8]) -> Written
-    ensures { λ r. ⌜ Writes (now (text .entry)) (now (text .exit)) (refusalText refusal) r ⌝ }
+// Writes a refusal's line: 1f with the number and the place, a byte each. A place may be greater elsewhere; who calls shows that it is not.
+pub fn write_refusal(number: u8, place: u8, text: &mut [u8]) -> Written
+    ensures { λ r. ⌜ Writes (now (text .entry)) (now (text .exit)) (refusedText number place) r ⌝ }
 {
     if text.len() < REFUSAL_LINE {
         return Written::Refused(Refusal::TooShort);
     }
-    put_line(
-        &[0x1f, model::number(refusal), model::place(refusal)],
-        text,
-        0,
-    );
+    put_line(&[0x1f, number, place], text, 0);
     Written::Bytes(REFUSAL_LINE)
 }
 

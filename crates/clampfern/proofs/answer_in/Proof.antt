@@ -3,7 +3,7 @@
 use mathlib.Core.Path.{refl}
 use borrow.Author.Needs.{needs}
 use Rattle.model.specs.Columns.{jobsIn}
-use Rattle.model.proofs.Columns.{upto-length}
+use Rattle.rows.proofs.Upto.{upto-length}
 use Rattle.clampfern.proofs.Lines.{columns-planned, columns-refused, writes-as}
 use Rattle.clampfern.proofs.answer_in.Statement.{statement}
 use Rattle.clampfern.proofs.answer_in.Tie as tie

@@ -2,7 +2,7 @@
 -- Assumes nothing.
 use mathlib.Core.Path.{sym, _∙_}
 use borrow.Author.Needs.{needs}
-use Rattle.model.proofs.Columns.{upto-length}
+use Rattle.rows.proofs.Upto.{upto-length}
 use Rattle.legal.proofs.CheckByCheck.{Passed, turn-window, turn-first, turn-second, turn-jobs, turn-cost, turn-long, turn-given}
 use Rattle.legal.proofs.check.Statement.{statement}
 use Rattle.legal.proofs.check.Tie as tie

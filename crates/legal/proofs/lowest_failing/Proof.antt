@@ -5,9 +5,11 @@ use Prim.Native.Nat.{_+_, _-_, _≤_}
 use native.Mathlib.Omega.{arith}
 use borrow.Author.Needs.{needs}
 use lib.ListN.{drop}
-use Rattle.model.specs.Columns.{at, jobAt, jobsIn}
-use Rattle.model.proofs.Columns.{upto-left, upto-none}
-use Rattle.legal.specs.Legal.{lowest, failsOf}
+use Rattle.model.specs.Columns.{jobAt, jobsIn}
+use Rattle.rows.specs.Upto.{at}
+use Rattle.rows.proofs.Upto.{upto-left, upto-none}
+use Rattle.rows.specs.Lists.{lowest}
+use Rattle.legal.specs.Legal.{failsOf}
 use Rattle.legal.proofs.lowest_failing.Statement.{statement}
 use Rattle.legal.proofs.lowest_failing.Tie as tie
 

@@ -9,7 +9,7 @@ use lib.Seq.{length-take-le, take-all}
 use Rattle.model.specs.Columns.{both, costOn, costs}
 use Rattle.model.specs.declared.Job.{Job}
 use Rattle.model.specs.declared.Kind.{Kind}
-use Rattle.model.proofs.Walk.{fill-one}
+use Rattle.rows.proofs.Walk.{fill-one}
 use Rattle.model.proofs.costs.Statement.{statement}
 use Rattle.model.proofs.costs.Tie as tie
 

@@ -53,7 +53,7 @@ use Rattle.model.specs.Columns.{costOn, first as on-first}
 use Rattle.model.specs.Limits.{jobsMost as most}
 use Rattle.model.specs.declared.Kind.{Kind}
 use Rattle.model.specs.declared.Job.{Job}
-use Rattle.model.proofs.Walk.{fill-one}
+use Rattle.rows.proofs.Walk.{fill-one}
 use Rattle.model.proofs.Kind as K
 use Rattle.model.proofs.Kind.Laws as K′
 use Rattle.model.proofs.Job as J

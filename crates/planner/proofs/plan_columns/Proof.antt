@@ -9,7 +9,7 @@ use lib.ListN.{length}
 use Rattle.model.specs.Columns.{sharesIn, jobsIn}
 use Rattle.model.specs.Limits.{jobsMost, slicesMost}
 use Rattle.model.specs.Refusal.{given}
-use Rattle.model.proofs.Columns.{upto-length}
+use Rattle.rows.proofs.Upto.{upto-length}
 use Rattle.split.specs.Shares.{sharesOf, saysOutcome, rowsOf}
 use Rattle.split.specs.declared.Outcome.{Outcome}
 use Rattle.planner.specs.Packing.{TableAsks}

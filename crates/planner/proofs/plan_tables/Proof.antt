@@ -1,7 +1,7 @@
 -- `planner::plan_tables` meets its contract: its own columns are long enough for every set, so that only the tables can be too short. Assumes nothing.
 use mathlib.Core.Path.{refl}
 use borrow.Author.Needs.{needs}
-use Rattle.model.proofs.Columns.{upto-length}
+use Rattle.rows.proofs.Upto.{upto-length}
 use Rattle.planner.proofs.Columned.{filled}
 use Rattle.planner.proofs.plan_tables.Statement.{statement}
 use Rattle.planner.proofs.plan_tables.Tie as tie

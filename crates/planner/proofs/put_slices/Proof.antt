@@ -49,7 +49,7 @@ use denote.Triple.Table.{entered, cited}
 use denote.Triple.Walked.{says, needs, Stays, stay-slice, stay-none, walkOf, goes-slice, goes-none, Walks, ends-at, walked, walk-meets}
 use denote.Exit.{yes}
 use denote.Signature.{plain}
-use Rattle.model.specs.Columns.{at}
+use Rattle.rows.specs.Upto.{at}
 use Rattle.model.specs.Limits.{slicesMost as most}
 use Rattle.model.specs.Packed.{sliceIn}
 use Rattle.model.specs.declared.Slice.{Slice as Row}

@@ -6,10 +6,10 @@ use native.Mathlib.Omega.{arith}
 use borrow.Author.Needs.{needs}
 use lib.ListN.{length, drop, length-map}
 use lib.Seq.{take-all}
-use Rattle.model.specs.Columns.{at}
+use Rattle.rows.specs.Upto.{at}
+use Rattle.rows.proofs.Upto.{fill}
 use Rattle.model.specs.Limits.{slicesMost}
 use Rattle.model.specs.Packed.{sliceIn, slicesIn}
-use Rattle.model.proofs.Columns.{fill}
 use Rattle.planner.proofs.Columned.{slices-take}
 use Rattle.planner.proofs.rows_of.Statement.{statement}
 use Rattle.planner.proofs.rows_of.Tie as tie

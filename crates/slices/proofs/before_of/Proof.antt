@@ -5,9 +5,9 @@ use Prim.Native.Nat.{_-_, _≤_}
 use native.Mathlib.Omega.{arith}
 use borrow.Author.Needs.{needs}
 use lib.ListN.{length, take, drop}
-use Rattle.model.proofs.Walk.{left-cons, left-none}
+use Rattle.rows.proofs.Walk.{left-cons, left-none}
 use Rattle.slices.specs.Moves.{beforeFrom, beforeOf}
-use Rattle.slices.proofs.Rows.{noRow}
+use Rattle.model.specs.Empty.{noSlice}
 use Rattle.model.specs.Limits.{slicesMost}
 use Rattle.slices.proofs.before_of.Statement.{statement}
 use Rattle.slices.proofs.before_of.Tie as tie
@@ -42,7 +42,7 @@ loop-again c =
     let a = c .before .before .before .before .args in
     let l = c .before .before .before .loop in
     let full : length (a .t1) ≡ slicesMost = search needs in
-    (omega arith, rw (c .later-of .ensures) (rw (left-cons (a .t1) (a .n) (omega arith) (l .i) noRow (omega arith)) at (l .inv .1)))
+    (omega arith, rw (c .later-of .ensures) (rw (left-cons (a .t1) (a .n) (omega arith) (l .i) noSlice (omega arith)) at (l .inv .1)))
 
 returns : tie.Need-returns Inv-loop μ-loop
 unfolding beforeFrom

@@ -6,11 +6,11 @@ use Prim.Native.Nat.{_+_, _-_, _≤_}
 use native.Mathlib.Omega.{arith}
 use borrow.Author.Needs.{needs}
 use lib.ListN.{length, take, drop}
-use Rattle.model.proofs.Walk.{left-cons, left-none}
-use Rattle.model.specs.Lists.{countOf}
+use Rattle.rows.proofs.Walk.{left-cons, left-none}
+use Rattle.rows.specs.Lists.{countOf}
+use Rattle.model.specs.Empty.{noSlice}
 use Rattle.model.specs.declared.Slice.{Slice}
 use Rattle.slices.specs.Moves.{isOuter, isInner, counted}
-use Rattle.slices.proofs.Rows.{noRow}
 use Rattle.model.specs.Limits.{slicesMost}
 use Rattle.slices.proofs.count_moves.Statement.{statement}
 use Rattle.slices.proofs.count_moves.Tie as tie
@@ -69,7 +69,7 @@ loop-again c =
     let a = s .before .before .before .args in
     let full : length (a .t1) ≡ slicesMost = search needs in
     let all : List Slice = take (a .n) (a .t1) in
-    let e = left-cons (a .t1) (a .n) (omega arith) (l .i) noRow (omega arith) in
+    let e = left-cons (a .t1) (a .n) (omega arith) (l .i) noSlice (omega arith) in
     let b = o .before .before .before-of .ensures in (
       omega arith,
       omega arith,

@@ -6,7 +6,7 @@ use native.Mathlib.Omega.{arith}
 use borrow.Author.Needs.{needs}
 use Rattle.split.specs.Steps.{nextFrom, nextOf}
 use Rattle.split.specs.Columns.{rowsIn, Small, bestOf, betterOf}
-use Rattle.model.specs.Columns.{at}
+use Rattle.rows.specs.Upto.{at}
 use Rattle.split.specs.declared.Best.{Best}
 use Rattle.split.proofs.Columns.{best-more}
 use Rattle.split.proofs.next_of.Statement.{statement}

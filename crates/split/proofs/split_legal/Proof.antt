@@ -2,7 +2,7 @@
 use native.Mathlib.Omega.{arith}
 use borrow.Author.Needs.{needs}
 use Rattle.model.specs.Columns.{jobsIn}
-use Rattle.model.proofs.Lists.{all-map}
+use Rattle.rows.proofs.Lists.{all-map}
 use Rattle.split.proofs.Answers.{asks-first, asks-second, both-over, first-over, second-over, none-over}
 use Rattle.split.proofs.Homes.{legal-longer}
 use Rattle.split.proofs.split_legal.Statement.{statement}

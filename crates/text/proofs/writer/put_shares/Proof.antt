@@ -6,17 +6,17 @@ use Prim.Native.Nat.{ℕ, _+_, _-_, _*_, _≤_}
 use native.Mathlib.Omega.{arith}
 use lib.ListN.{length, drop}
 use lib.Seq.{sets}
-use Rattle.model.specs.Columns.{at as number, sharesIn}
-use Rattle.model.specs.Split.{share}
-use Rattle.model.specs.declared.Share.{Share}
-use Rattle.model.proofs.Columns.{upto-left, upto-none}
+use Rattle.model.specs.Columns.{sharesIn}
+use Rattle.rows.specs.Upto.{at as number}
+use Rattle.rows.proofs.Upto.{upto-left, upto-none}
+use Rattle.model.specs.Split.{Ticks, share}
 use Rattle.text.specs.Hex.{digitsOf, textOf}
 use Rattle.text.specs.Output.{shareRecord, shareRecords}
 use Rattle.text.proofs.Stores.{text-more}
 use Rattle.text.proofs.writer.put_shares.Statement.{statement}
 use Rattle.text.proofs.writer.put_shares.Tie as tie
 
-abbrev shareAt : (first second : List ℕ) → ℕ → Share
+abbrev shareAt : (first second : List ℕ) → ℕ → Ticks
 shareAt first second i = share (number first i) (number second i)
 
 abbrev Inv-loop : tie.InvT-loop

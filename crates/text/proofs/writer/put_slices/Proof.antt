@@ -6,10 +6,10 @@ use Prim.Native.Nat.{ℕ, _+_, _-_, _*_, _≤_}
 use native.Mathlib.Omega.{arith}
 use lib.ListN.{length, drop}
 use lib.Seq.{sets}
-use Rattle.model.specs.Columns.{at as number}
+use Rattle.rows.specs.Upto.{at as number}
+use Rattle.rows.proofs.Upto.{upto-left, upto-none}
 use Rattle.model.specs.Packed.{sliceIn, slicesIn}
 use Rattle.model.specs.declared.Slice.{Slice}
-use Rattle.model.proofs.Columns.{upto-left, upto-none}
 use Rattle.text.specs.Hex.{digitsOf, textOf}
 use Rattle.text.specs.Output.{sliceRecord}
 use Rattle.text.proofs.Stores.{text-more}

@@ -2,7 +2,7 @@
 -- was tested. Assumes nothing.
 use Rattle.model.specs.Columns.{sharesIn}
 use Rattle.model.specs.Packed.{slicesIn}
-use Rattle.model.proofs.Columns.{upto-length}
+use Rattle.rows.proofs.Upto.{upto-length}
 use Rattle.text.proofs.PlanText.{plan-length, plan-stored}
 use Rattle.text.proofs.Stores.{too-short, all-written}
 use borrow.Author.Needs.{needs}

@@ -1,8 +1,8 @@
 -- What is said of all elements of a list, or of every two, is said of its members. Assumes nothing.
 use mathlib.Core.Path.{_≡_, refl, sym, _∙_}
 use mathlib.Core.List.{List, [], _∷_, List·Memᴰ, List·Memᴰ·head, List·Memᴰ·tail}
-use Rattle.model.specs.Lists.{All, Pairs}
-use Rattle.model.proofs.Lists.{all-map}
+use Rattle.rows.specs.Lists.{All, Pairs}
+use Rattle.rows.proofs.Lists.{all-map}
 
 module _ {A : Type 0} where
   pub all-members : (xs : List A) → All (λ (x : A). List·Memᴰ x xs) xs

@@ -1,0 +1,3 @@
+pub mod Lists
+pub mod Upto
+pub mod Numbered
