@@ -57,6 +57,7 @@ pub cores-are : coresOf (board 2 3) First ∷ coresOf (board 2 3) Second ∷ [] 
 cores-are = refl
 
 pub rooms-are : roomOf (board 2 3) First ∷ roomOf (board 2 3) Second ∷ [] ≡ 20 ∷ 30 ∷ []
+unfolding roomOf
 rooms-are = refl
 
 -- ==== Inside: on a board with two cores of the first kind and one of the second, with three jobs

@@ -4,5 +4,6 @@ pub mod Determined
 pub mod Movers
 pub mod Packed
 pub mod Product
+pub mod RoomLaws
 pub mod ShareRow
 pub mod Splits

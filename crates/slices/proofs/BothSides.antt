@@ -7,6 +7,7 @@ use mathlib.Core.List.{List, [], _∷_}
 use Prim.Native.Nat.{ℕ, zero, suc, _<_}
 use native.Mathlib.Omega.{arith}
 use lib.Dec.{eqb}
+use Rattle.model.specs.Board.{roomOf}
 use Rattle.rows.specs.Lists.{countOf}
 use Rattle.model.specs.Split.{Ticks, share}
 use Rattle.model.specs.declared.Kind.{Kind}
@@ -25,9 +26,11 @@ each-kind P a b First = a
 each-kind P a b Second = b
 
 pub fits-even : On (share 4 6 ∷ share 6 4 ∷ [])
+unfolding roomOf
 fits-even = record { some = omega arith; each = omega arith; within = each-kind _ (omega arith) (omega arith); one-uneven = omega arith }
 
 pub fits-one-uneven : On (share 4 6 ∷ share 6 3 ∷ [])
+unfolding roomOf
 fits-one-uneven = record { some = omega arith; each = omega arith; within = each-kind _ (omega arith) (omega arith); one-uneven = omega arith }
 
 pub fits-two-unevens-not : On (share 4 5 ∷ share 6 3 ∷ []) → ⊥
@@ -37,9 +40,11 @@ pub fits-long-not : On (share 4 6 ∷ share 5 6 ∷ []) → ⊥
 fits-long-not f = omega arith
 
 pub fits-first-not : On (share 10 0 ∷ share 1 0 ∷ []) → ⊥
+unfolding roomOf
 fits-first-not f = omega (arith, f .within First)
 
 pub fits-second-not : On (share 0 10 ∷ share 0 1 ∷ []) → ⊥
+unfolding roomOf
 fits-second-not f = omega (arith, f .within Second)
 
 pub fits-no-window-not : Fits (record { window = 0; first = 1; second = 1 }) [] → ⊥

@@ -6,6 +6,7 @@ use mathlib.Core.List.{List, [], _∷_}
 use Prim.Native.Nat.{ℕ, _+_, _*_, _≤_, _<_}
 use native.Mathlib.Omega.{arith}
 use lib.ListN.{length, getD, length-append}
+use Rattle.model.proofs.RoomLaws.{room-most, room-both}
 use Rattle.model.specs.Board.{coresOf}
 use Rattle.rows.specs.Lists.{countOf}
 use Rattle.model.specs.Movers.{movers}
@@ -42,7 +43,7 @@ module _ (board : Board) (ss : List Ticks) (fits : Fits board ss) where
   pub fits-movers : movers ss ≤ board .first + board .second
   fits-movers =
       movers-few (board .window) (board .first) (board .second) ss (fits .some) (fits .one-uneven)
-      (omega (arith, fits .within First, fits .within Second))
+      (omega (arith, fits .within First, fits .within Second, room-both board))
 
   -- A slice for each piece, and one more for each edge of a core that a run passes.
   pub table-length : length (tableOf (board .window) ss)
@@ -61,7 +62,7 @@ module _ (board : Board) (ss : List Ticks) (fits : Fits board ss) where
   kind-cuts k some =
       cuts-few k (board .window) (fits .some) (Placed k (board .window) ss) (sized board ss fits k) (coresOf board k) 1 0
       (piecesOf k (board .window) ss) (pieces-placed k (board .window) ss) (omega arith) (omega arith) some
-      (omega (arith, pieces-total k (board .window) ss, fits .within k))
+      (omega (arith, pieces-total k (board .window) ss, fits .within k, room-most board k))
 
   pub table-few : 1 ≤ board .first → 1 ≤ board .second
       → length (tableOf (board .window) ss) + 2 ≤ length ss + 2 * (board .first + board .second)

@@ -8,6 +8,7 @@ use native.Mathlib.Omega.{arith}
 use lib.Dec.{eqb}
 use lib.ListN.{length}
 use borrow.Author.Tests.{eqb-true, eq-eqb}
+use Rattle.rows.proofs.Numbered.{below-ones}
 use Rattle.model.specs.Board.{sameKind}
 use Rattle.rows.specs.Lists.{countOf}
 use Rattle.rows.proofs.Lists.{all-map, pairs-map}
@@ -21,7 +22,7 @@ use Rattle.slices.specs.Moves.{beforeOf, isOuter, isInner, counted, move
 use Rattle.slices.specs.declared.Before.{Before}
 use Rattle.slices.specs.declared.Before.the-variants.{Nothing, Row}
 use Rattle.slices.proofs.Earlier.{before-row, before-none}
-use Rattle.slices.proofs.Totals.{below-ones, count-jobs, count-all, count-member, count-find, count-most}
+use Rattle.slices.proofs.Totals.{count-jobs, count-all, count-member, count-find, count-most}
 
 abbrev isFirst : Before → Slice → Bool
 isFirst Nothing s = true

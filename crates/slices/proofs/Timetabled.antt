@@ -9,6 +9,7 @@ use Prim.Native.Nat.{ℕ, _+_, _-_, _*_, _≤_, _<_}
 use native.Mathlib.Nat.{lt-of-mul-lt-mul-right, mul-le-mul-right}
 use native.Mathlib.Omega.{arith}
 use lib.ListN.{length, getD}
+use Rattle.model.proofs.RoomLaws.{room-most}
 use Rattle.model.specs.Board.{on, roomOf, sameKind}
 use Rattle.rows.specs.Lists.{All, Pairs}
 use Rattle.rows.proofs.Lists.{all-map, all-append, all-at, pairs-append, pairs-map, sum-append}
@@ -80,7 +81,7 @@ module _ (board : Board) (ss : List Ticks) where
         inside = record {
           some = cut .some;
           ends = cut .ends;
-          core = rw (cut .kind) (lt-of-mul-lt-mul-right w (omega (arith, cut .high, cut .some)));
+          core = rw (cut .kind) (lt-of-mul-lt-mul-right w (omega (arith, cut .high, cut .some, room-most board k)));
           job = rw (cut .job) (h .job);
         };
         low = omega (arith, cut .low);

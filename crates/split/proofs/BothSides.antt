@@ -11,6 +11,7 @@ use mathlib.Core.List.{List, [], _∷_, map}
 use mathlib.Core.Path.{_≡_, refl}
 use Prim.Native.Nat.{ℕ, _+_}
 use native.Mathlib.Omega.{arith}
+use Rattle.model.specs.Board.{roomOf}
 use Rattle.model.specs.Refusal.{given, refused}
 use Rattle.model.specs.Split.{Ticks, share, DoneBy, AllDone, ticksOf, Split}
 use Rattle.model.specs.declared.Kind.the-variants.{First, Second}
@@ -38,7 +39,7 @@ abbrev three : List Job
 three = B 10 11 ∷ B 11 10 ∷ B 6 16 ∷ B 10 10 ∷ []
 
 pub smaller-are : smaller (board 2 3) three First ∷ smaller (board 2 3) three Second ∷ [] ≡ 18 ∷ 29 ∷ []
-unfolding stretchedAt
+unfolding stretchedAt roomOf
 smaller-are = refl
 
 -- ==== Accepted: B(2,3) has its whole work with 2 ticks on the first kind, or 3 on the second, or 1 and 2
@@ -46,10 +47,12 @@ abbrev two : List Job
 two = B 2 3 ∷ B 2 3 ∷ []
 
 pub accepted-no-uneven : Accepted (board 1 1) two (share 2 0 ∷ share 0 3 ∷ [])
+unfolding roomOf
 accepted-no-uneven = search arith
 
 -- Two movers, as many as cores, and both kinds exactly full.
 pub accepted-one-uneven : Accepted (board 1 1) two (share 4 6 ∷ share 6 3 ∷ []) × Accepted (board 1 1) two (share 4 6 ∷ share 6 4 ∷ [])
+unfolding roomOf
 accepted-one-uneven = search arith
 
 pub accepted-two-unevens-not : Accepted (board 1 1) two (share 1 2 ∷ share 1 2 ∷ []) → ⊥
@@ -60,12 +63,15 @@ accepted-short-not a = omega arith
 
 pub accepted-rooms : Accepted (board 2 1) (F 10 ∷ F 10 ∷ []) (share 10 0 ∷ share 10 0 ∷ [])
     × Accepted (board 1 2) (S 10 ∷ S 10 ∷ []) (share 0 10 ∷ share 0 10 ∷ [])
+unfolding roomOf
 accepted-rooms = search arith
 
 pub accepted-first-not : Accepted (board 2 3) (F 10 ∷ F 10 ∷ F 1 ∷ []) (share 10 0 ∷ share 10 0 ∷ share 1 0 ∷ []) → ⊥
+unfolding roomOf
 accepted-first-not a = omega arith
 
 pub accepted-second-not : Accepted (board 3 2) (S 10 ∷ S 10 ∷ S 1 ∷ []) (share 0 10 ∷ share 0 10 ∷ share 0 1 ∷ []) → ⊥
+unfolding roomOf
 accepted-second-not a = omega arith
 
 -- ==== Demands and Exactly
@@ -85,20 +91,20 @@ two-shares {w} {i = i} {j = j} s = go (s .shares) (s .done)
 
 -- A stretched job needs 3.6 ticks at home, where the smaller board has 9: with 6 for the other job there is no split, with 5 there is.
 pub demands-first : Demands (board 1 1) (B 6 16 ∷ F 6 ∷ []) (refused 6 0)
-unfolding stretchedAt
+unfolding stretchedAt roomOf
 demands-first six s = omega (arith, two-shares s)
 
 pub demands-first-not : Demands (board 1 1) (B 6 16 ∷ F 5 ∷ []) (refused 6 0) → ⊥
-unfolding stretchedAt
+unfolding stretchedAt roomOf
 demands-first-not d =
     d refl (record { whole = 1; some = omega arith; shares = share 4 6 ∷ share 5 0 ∷ []; done = omega arith; within1 = omega arith; within2 = omega arith })
 
 pub demands-second : Demands (board 1 1) (B 16 6 ∷ S 6 ∷ []) (refused 6 0)
-unfolding stretchedAt
+unfolding stretchedAt roomOf
 demands-second six s = omega (arith, two-shares s)
 
 pub demands-second-not : Demands (board 1 1) (B 16 6 ∷ S 5 ∷ []) (refused 6 0) → ⊥
-unfolding stretchedAt
+unfolding stretchedAt roomOf
 demands-second-not d =
     d refl (record { whole = 1; some = omega arith; shares = share 6 4 ∷ share 0 5 ∷ []; done = omega arith; within1 = omega arith; within2 = omega arith })
 
@@ -108,13 +114,13 @@ demands-given-not d = omega arith
 
 -- With no stretched job: both kinds exactly full, and the first over by one tick.
 pub exactly-refused-not : Exactly (board 1 1) 2 (F 10 ∷ S 10 ∷ []) (refused 6 0) → ⊥
-unfolding lowest legalOf stretchedAt
+unfolding lowest legalOf stretchedAt roomOf
 exactly-refused-not e =
     e refl refl refl .0 refl
     (record { whole = 1; some = omega arith; shares = share 10 0 ∷ share 0 10 ∷ []; done = omega arith; within1 = omega arith; within2 = omega arith })
 
 pub exactly-given-not : Exactly (board 1 1) 2 (F 10 ∷ F 1 ∷ []) (given (share 10 0 ∷ share 1 0 ∷ [])) → ⊥
-unfolding lowest legalOf stretchedAt
+unfolding lowest legalOf stretchedAt roomOf
 exactly-given-not e =
     let is = e refl refl refl .1 (λ s. omega (arith, two-shares s)) in
     let z : _≡_ {A = ℕ} 0 1 = cc in

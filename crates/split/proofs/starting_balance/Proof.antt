@@ -6,6 +6,7 @@ use Prim.Native.Nat.{ℕ, _≤_}
 use native.Mathlib.Nat.{mul-le-mul}
 use native.Mathlib.Omega.{arith}
 use lib.ListN.{length, take}
+use Rattle.model.proofs.RoomLaws.{room-limit}
 use Rattle.model.specs.Board.{roomOf}
 use Rattle.model.specs.Columns.{jobsIn}
 use Rattle.model.specs.Limits.{jobsMost}
@@ -33,8 +34,8 @@ use Rattle.split.proofs.home_ticks.Reads as home-ticks-reads
 use Rattle.split.proofs.less.Reads as less-reads
 
 room-most : {board : Board} {n : ℕ} {js : List Job} (k : Kind) → Lawful board n js → roomOf board k ≤ 524280
-room-most First l = mul-le-mul (l .first-most) (l .window-most)
-room-most Second l = mul-le-mul (l .second-most) (l .window-most)
+room-most {board} First l = room-limit board First (l .first-most) (l .window-most)
+room-most {board} Second l = room-limit board Second (l .second-most) (l .window-most)
 
 costs-requires : tie.Need-costs-requires
 costs-requires c κs = search needs
