@@ -7,6 +7,7 @@ use Prim.Native.Nat.{ℕ}
 use Prim.Native.String.{String}
 use Prim.Native.String as S
 use lib.ListN.{replicate}
+use Rattle.model.specs.Board.{roomOf}
 use Rattle.model.specs.Refusal.{given, refused}
 use Rattle.model.specs.Split.{share}
 use Rattle.model.specs.declared.Kind.{Kind}
@@ -34,7 +35,7 @@ slice job kind core start length = record { job = job; kind = kind; core = core;
 
 pub example-answered : answerText (bytes "01000a0101\n02000000000600000009\n02000000000600000008\n")
     ≡ bytes "100203\n110000060000\n110100040003\n1201010000000004\n1200010000040006\n1201020000070003\n"
-unfolding bytes linesOf nibbleOf pairsOf bytesOf numberFrom jobIn entryOf jobsFrom inputFrom inputOf lowest legalOf atHome keepOf giveOf better nextFrom movedOf
+unfolding bytes linesOf nibbleOf pairsOf bytesOf numberFrom jobIn entryOf jobsFrom inputFrom inputOf lowest legalOf atHome keepOf giveOf better nextFrom movedOf roomOf
     stepOf stepsOf settled byOver chosen piecesOf cutOf packed tableOf digitsOf textOf shareRecords
 example-answered = refl
 

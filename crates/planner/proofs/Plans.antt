@@ -10,6 +10,7 @@ use native.Mathlib.Nat.{mul-le-mul-right}
 use native.Mathlib.Omega.{arith}
 use lib.Dec.{ltb}
 use lib.ListN.{length}
+use Rattle.model.proofs.RoomLaws.{room-most}
 use Rattle.model.specs.Board.{roomOf}
 use Rattle.rows.specs.Lists.{All}
 use Rattle.model.specs.Refusal.{Answer, given, refused, andThen}
@@ -97,8 +98,8 @@ module _ (board : Board) (n : ℕ) (js : List Job) where
         short = law .window-most;
         few = omega (arith, law .few, all-done-length (board .window) 1 js ss (ok .whole .done));
         each = done-each (board .window) js ss (ok .whole .done);
-        within1 = omega (arith, ok .whole .within1, mul-le-mul-right (board .window) (law .first-most));
-        within2 = omega (arith, ok .whole .within2, mul-le-mul-right (board .window) (law .second-most));
+        within1 = omega (arith, ok .whole .within1, mul-le-mul-right (board .window) (law .first-most), room-most board First);
+        within2 = omega (arith, ok .whole .within2, mul-le-mul-right (board .window) (law .second-most), room-most board Second);
         rows = omega (arith, law .few, accepted-few ss law ok, law .first-most, law .second-most);
       }
 

@@ -20,7 +20,7 @@ use borrow.Author.Tests.{ltb-true, ltb-false}
 use lib.Dec.{ltb}
 use lib.ListN.{length, take, getD, replicate}
 use lib.Seq.{getD-take, length-take-le}
-use Rattle.model.specs.Board.{sameKind}
+use Rattle.model.specs.Board.{sameKind, roomOf}
 use Rattle.model.specs.Empty.{noShare, noSlice}
 use Rattle.rows.specs.Lists.{All}
 use Rattle.model.specs.Split.{Ticks, share, ticksOf, AllDone}
@@ -84,6 +84,7 @@ record Small (js : List Job) : Type 0 where
 -- A set of jobs whose shares are told.
 small : (js : List Job) (ss : List Ticks) → All (LegalJob 10) js → AllDone 10 1 js ss → ticksOf First ss + stretchedOn tiny js First ≤ 10
     → ticksOf Second ss + stretchedOn tiny js Second ≤ 10 → length js ≤ 2 → Small js
+unfolding roomOf
 small js ss legal does within₁ within₂ few =
     record {
       law =

@@ -6,6 +6,7 @@ use mathlib.Core.List.{List, [], _∷_, _++_}
 use mathlib.Core.Path.{_≡_, refl}
 use Prim.Native.Nat.{ℕ}
 use lib.ListN.{length, replicate}
+use Rattle.model.specs.Board.{roomOf}
 use Rattle.model.specs.Limits.{jobsMost, slicesMost}
 use Rattle.model.specs.Movers.{movers}
 use Rattle.model.specs.declared.Board.{Board}
@@ -31,9 +32,9 @@ jobs =
     ++ both 400 900 ∷ (replicate 24 (OnlyFirst (record { 0 = 10 })) ++ replicate 24 (OnlySecond (record { 0 = 5 })))
 
 pub most-slices : length (slicesIn (planOf board jobsMost jobs jobsMost slicesMost)) ≡ slicesMost
-unfolding lowest legalOf atHome keepOf giveOf better nextFrom movedOf stepOf stepsOf settled byOver chosen piecesOf cutOf packed tableOf
+unfolding lowest legalOf atHome keepOf giveOf better nextFrom movedOf stepOf stepsOf settled byOver chosen piecesOf cutOf packed tableOf roomOf
 most-slices = refl
 
 pub most-movers : movers (sharesIn (planOf (record { window = 10; first = 1; second = 1 }) 2 (both 8 11 ∷ both 9 13 ∷ []) 2 4)) ≡ 2
-unfolding lowest legalOf atHome keepOf giveOf better nextFrom movedOf stepOf stepsOf settled byOver chosen piecesOf cutOf packed tableOf
+unfolding lowest legalOf atHome keepOf giveOf better nextFrom movedOf stepOf stepsOf settled byOver chosen piecesOf cutOf packed tableOf roomOf
 most-movers = refl
