@@ -11,8 +11,8 @@ unset SEED COUNT
 
 # ---- the stand-in, and the programs that stand in
 mkdir -p "$room/whole/said" "$room/whole/independent/target/release" "$room/bin"
-cp -R .ci include tests tools "$room/whole"
-cp --parents docs/REFUSALS.md crates/model/specs/Limits.antt "$room/whole"
+cp -R .ci README.md examples include tests tools "$room/whole"
+cp --parents docs/SPEC.md docs/REFUSALS.md crates/plan/stdin crates/plan/stdout crates/model/specs/Limits.antt "$room/whole"
 cp -R independent/tests "$room/whole/independent"
 eval "$(grep '^tests=(' .ci/run)"
 libraries=(model text clampfern)
@@ -169,10 +169,15 @@ fails 'tests/more.rs: no test ran' 'touch independent/tests/more.rs'
 passes tests/example.sh ''
 fails '' 'echo exit 3 >>said/example'
 fails '' 'echo "kill -SEGV \$\$" >>said/example'
-fails '> two jobs' 'echo exit 0 >said/example'
+fails '> examples/two-jobs.txt: 2 jobs' 'echo exit 0 >said/example'
 fails '' ': >tests/c/example.stdout'
 fails 'U malloc' 'echo malloc U >>said/symbols'
 fails 'T more' 'echo more T 0 1 >>said/symbols'
+fails 'README.md has another example than examples/two-jobs.txt' 'sed -i "s/^    0200/    0201/" README.md'
+fails 'README.md has another example than examples/two-jobs.plan.txt' 'sed -i "/^    12/d" README.md'
+fails 'docs/SPEC.md has another example than examples/two-jobs.txt' 'sed -i "/^    01/d" docs/SPEC.md'
+fails 'crates/plan/stdin has another example' 'echo >>crates/plan/stdin'
+fails 'crates/plan/stdout has another example' ': >crates/plan/stdout'
 
 # ---- the stack: a push, 16 bytes, two return addresses and 24 bytes below the pointer
 passes tests/stack.sh 'clampfern_plan 64 bytes, planner::plan 40 bytes'
