@@ -8,7 +8,7 @@ cd "$(dirname "$0")/.." || exit 2
 program=facts
 . tools/answers.sh
 
-# says NAME SET WANT: what it says of a set. Lines are written with a blank between them in a set, and a semicolon in what is said.
+# says NAME SET WANT: what it says of a set. A blank of a set stands for a line feed, and so does a semicolon of what is said.
 says() {
     printf %s "${2:+$2 }" | tr ' ' '\n' | "${run[@]}" >"$out" 2>"$err"
     is "$1" "$?" "$(printf %s "$3" | tr ';' '\n')"$'\n' ''
@@ -20,7 +20,7 @@ times() { printf " $2%.0s" $(seq "$1"); }
 twice=02000000000a0000000a # B(10,10)
 six=02000000000600000010   # B(6,16)
 
-says 'one mover' '01000a0101 02000000000600000009 02000000000600000008' 'balance -2 10;moves 0 0 0;moves 1 1 0'
+says 'one mover' "$(<examples/two-jobs.txt)" 'balance -2 10;moves 0 0 0;moves 1 1 0'
 says 'even movers' "01000a0202 $six $six $six 02010000000800000000" 'balance -6 20;moves 0 1 0;moves 1 2 0;moves 2 2 0;moves 3 0 0'
 says 'two cores of the first kind' "01000a0201$(times 3 02010000000600000000)" 'balance 2 10;moves 0 0 0;moves 1 0 1;moves 2 0 0'
 says 'two cores of the second kind' "01000a0102$(times 3 02020000000000000006)" 'balance 10 2;moves 0 0 0;moves 1 0 1;moves 2 0 0'

@@ -11,7 +11,8 @@ unset SEED COUNT
 
 # ---- the stand-in, and the programs that stand in
 mkdir -p "$room/whole/said" "$room/whole/independent/target/release" "$room/bin"
-cp -R .ci include tests tools "$room/whole"
+cp -R .ci README.md examples include tests tools "$room/whole"
+cp --parents docs/SPEC.md docs/REFUSALS.md crates/plan/stdin crates/plan/stdout crates/model/specs/Limits.antt "$room/whole"
 cp -R independent/tests "$room/whole/independent"
 eval "$(grep '^tests=(' .ci/run)"
 libraries=(model text clampfern)
@@ -102,7 +103,7 @@ try() {
     cp -R "$room/whole" "$room/repository"
     said=$(
         cd "$room/repository" && { [ "$script" != .ci/run ] || simple_tests; } && eval "$1" || { echo 'no change was made' && exit 0; }
-        PATH=$path exec bash "$script" 2>&1
+        PATH=$path exec bash "$script" 2>&1 </dev/null
     )
     status=$?
 }
@@ -168,10 +169,15 @@ fails 'tests/more.rs: no test ran' 'touch independent/tests/more.rs'
 passes tests/example.sh ''
 fails '' 'echo exit 3 >>said/example'
 fails '' 'echo "kill -SEGV \$\$" >>said/example'
-fails '> two jobs' 'echo exit 0 >said/example'
+fails '> examples/two-jobs.txt: 2 jobs' 'echo exit 0 >said/example'
 fails '' ': >tests/c/example.stdout'
 fails 'U malloc' 'echo malloc U >>said/symbols'
 fails 'T more' 'echo more T 0 1 >>said/symbols'
+fails 'README.md has another example than examples/two-jobs.txt' 'sed -i "s/^    0200/    0201/" README.md'
+fails 'README.md has another example than examples/two-jobs.plan.txt' 'sed -i "/^    12/d" README.md'
+fails 'docs/SPEC.md has another example than examples/two-jobs.txt' 'sed -i "/^    01/d" docs/SPEC.md'
+fails 'crates/plan/stdin has another example' 'echo >>crates/plan/stdin'
+fails 'crates/plan/stdout has another example' ': >crates/plan/stdout'
 
 # ---- the stack: a push, 16 bytes, two return addresses and 24 bytes below the pointer
 passes tests/stack.sh 'clampfern_plan 64 bytes, planner::plan 40 bytes'
@@ -183,7 +189,7 @@ fails 'there is no function facts::plan_over_marks' 'sed -i s/plan_over_marks/mo
 fails 'split::steps calls itself' 'sed -i "s/ret/call   10 <split::steps>/" said/code'
 fails 'split::steps has call   *%rax' 'sed -i "s/mov .*/call   *%rax/" said/code'
 fails 'split::steps has sub    %rax,%rsp' 'sed -i "s/mov .*/sub    %rax,%rsp/" said/code'
-fails "the header promises '8192' bytes" 'sed -i s/4096/8192/ include/clampfern.h'
+fails "the header promises '8192' bytes" 'sed -i "s/\(STACK_MOST\) 4096/\1 8192/" include/clampfern.h'
 
 # ---- the counts
 passes tests/counts.sh 'instructions of a call: 0 201, 8 201, 64 201, worst 201, refused 201'
@@ -215,20 +221,33 @@ fails 'text/must-fail/one.edit: refused, but not at a fact' 'echo "x: error: x h
 header() {
     fails "$1" "sed -i '$2' include/clampfern.h"
 }
-passes tests/header.sh 'the longest answer has 2437 bytes'
+# header_numbers: a line NAME NUMBER for each number of the header that this test looks at
+header_numbers() {
+    sed -nE '/STACK_MOST/d; s/^.*CLAMPFERN_([A-Z_]+) (= )?([0-9]+).*/\1 \3/p' include/clampfern.h
+}
+passes tests/header.sh "$(header_numbers | wc -l) numbers"
 header the_result_has_8_bytes 's/^size_t clampfern/uint16_t clampfern/'
 header 'planner *const entry' 's/^size_t clampfern/int64_t clampfern/'
 header 'planner *const entry' 's/size_t text_len,/uint32_t text_len,/'
 header 'planner *const entry' 's/size_t out_len)/uint32_t out_len)/'
 header 'planner *const entry' 's/const uint8_t/uint8_t/'
-header has_the_size_that_is_proved 's/2437/2436/'
-header has_the_size_that_is_proved 's/2437/2438/'
-header 'planner clampfern_plan;' '/^extern "C"/d; /^}/d'
+while read -r name number; do
+    header "${name}_is_the_sources_number" "s/\(CLAMPFERN_$name [= ]*\)$number/\1$((number + 1))/"
+done < <(header_numbers)
+header CLAMPFERN_JOBS_MOST '/CLAMPFERN_JOBS_MOST/d'
+header 'has numbers that the sources have not: MORE' 's/^enum/#define CLAMPFERN_MORE 1\n&/'
+header 'has numbers that the sources have not: REFUSAL_MORE' 's/ORDER = 10/&, CLAMPFERN_REFUSAL_MORE = 11/'
+header 'planner clampfern_plan;' '/^extern "C"/d; /^}$/d'
 header 'declares these functions: more' 's/^size_t clampfern/size_t more(void);\n&/'
 header 'declares these functions: ' '/^size_t clampfern/d'
 fails 'the sources have these entries' 'sed -i "s/^\(pub extern.*\) usize/\1 u32/" crates/clampfern/src/lib.rt'
 fails 'the sources give no ANSWER_MOST' 'sed -i "/const ANSWER_MOST/d" crates/text/src/*.rt'
-fails has_the_size_that_is_proved 'sed -i "s/const SLICES_MOST: usize = 94/const SLICES_MOST: usize = 95/" crates/model/src/lib.rt'
+fails 'slicesMost is not 95' 'sed -i "s/const SLICES_MOST: usize = 94/const SLICES_MOST: usize = 95/" crates/model/src/lib.rt'
+fails 'windowMost is not 65535' 'sed -i "s/^windowMost = .*/windowMost = 65536/" crates/model/specs/Limits.antt'
+fails OUT_MOST_is_the_sources_number 'sed -i "s/const SLICE_LINE: usize = 17/const SLICE_LINE: usize = 18/" crates/text/src/*.rt'
+fails 'docs/REFUSALS.md has no row | 9 | `RECORD` |' 'sed -i "/RECORD/d" docs/REFUSALS.md'
+fails REFUSAL_ORDER_is_the_sources_number 'sed -i "s/Refusal::Order(_) => 10,/Refusal::Order(_) => 11,/" crates/model/src/lib.rt'
+fails 'has numbers that the sources have not: REFUSAL_ORDER' 'sed -i "/Refusal::Order(_) => 10,/d" crates/model/src/lib.rt'
 
 [ "$bad" != 0 ] || echo "$tries tries"
 exit $bad

@@ -9,8 +9,8 @@ c_preload streams || exit
 program=plan
 . tools/answers.sh
 preloaded=(timeout 60 tools/run --preload target/c/streams.so plan)
-example=$'01000a0101\n02000000000600000009\n02000000000600000008\n'
-plan=$'100203\n110000060000\n110100040003\n1201010000000004\n1200010000040006\n1201020000070003\n'
+example=$(<examples/two-jobs.txt)$'\n'
+plan=$(<examples/two-jobs.plan.txt)$'\n'
 unread=$'plan: the input cannot be read\n'
 unwritten=$'plan: the answer cannot be written\n'
 
@@ -85,7 +85,7 @@ answers '4,096 bytes' $'1f0901\n' digits 4096
 answers '4,097 bytes' $'1f0800\n' digits 4097
 answers '100,000 bytes' $'1f0800\n' digits 100000
 
-# The longest answer: 64 jobs on 8 and 8 cores with 94 slices, so 2,437 bytes (planner/specs/Most.antt has the same set).
+# The longest answer: 64 jobs on 8 and 8 cores with 94 slices (planner/specs/Most.antt has the same set).
 longest() {
     printf '01%04x0808\n' 1000
     printf '0200%08x%08x\n' $(times 15 '800 1338 ') 400 900
@@ -93,7 +93,7 @@ longest() {
     printf '020200000000%08x\n' $(times 24 '5 ')
 }
 longest | "${run[@]}" >"$out" 2>"$err"
-if [ "${PIPESTATUS[1]} $(wc -c <"$out") $(head -n 1 "$out") $(wc -l <"$out") $(wc -c <"$err")" != '0 2437 10405e 159 0' ]; then
+if [ "${PIPESTATUS[1]} $(wc -c <"$out") $(head -n 1 "$out") $(wc -l <"$out") $(wc -c <"$err")" != "0 $(header_number OUT_MOST) 10405e 159 0" ]; then
     echo "the longest answer: $(wc -c <"$out") bytes, of which the first line is '$(head -n 1 "$out")'"
     bad=1
 fi

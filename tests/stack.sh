@@ -23,7 +23,7 @@ within() {
 tables=$((2 * (64 * 8 + 94 * 8)))
 within clampfern_plan target/c/example clampfern_plan 0
 within planner::plan target/bin/facts facts::plan_over_marks "$tables"
-promised=$(sed -nE 's/^#define CLAMPFERN_STACK_MOST ([0-9]+)$/\1/p' include/clampfern.h)
+promised=$(header_number STACK_MOST)
 [ "$promised" = "$most" ] || { echo "the header promises '$promised' bytes of stack, and not $most" && bad=1; }
 [ "$bad" != 0 ] || echo "$report"
 exit $bad

@@ -32,6 +32,11 @@ find_compilers() {
     { command -v $cc && command -v $cxx; } >/dev/null || add_packages "${compilers[@]}"
 }
 
+# header_number NAME: the number that the C header defines as CLAMPFERN_NAME.
+header_number() {
+    sed -nE "s/^#define CLAMPFERN_$1 ([0-9]+)( .*)?$/\1/p" include/clampfern.h
+}
+
 # compile WORD..: from C.
 compile() {
     find_compilers && mkdir -p target/c && quietly $cc -std=c11 -O2 -Wall -Wextra -Werror "$@"

@@ -7,19 +7,19 @@ use independent::family::Family;
 use independent::gen;
 use independent::text::plan_text;
 
-const INPUT: &[u8] = b"01000a0101\n02000000000600000009\n02000000000600000008\n";
-const OUTPUT: &str = "100203\n110000060000\n110100040003\n\
-                      1201010000000004\n1200010000040006\n1201020000070003\n";
+const INPUT: &str = include_str!("../../examples/two-jobs.txt");
+const OUTPUT: &str = include_str!("../../examples/two-jobs.plan.txt");
 
 fn objects(from: &str, to: &str, part: &str) {
     assert!(OUTPUT.contains(from), "{from}");
-    let message = check_plan(INPUT, OUTPUT.replacen(from, to, 1).as_bytes()).unwrap_err();
+    let output = OUTPUT.replacen(from, to, 1);
+    let message = check_plan(INPUT.as_bytes(), output.as_bytes()).unwrap_err();
     assert!(message.contains(part), "{message}");
 }
 
 #[test]
 fn objections() {
-    assert_eq!(check_plan(INPUT, OUTPUT.as_bytes()), Ok(()));
+    assert_eq!(check_plan(INPUT.as_bytes(), OUTPUT.as_bytes()), Ok(()));
     objects("100203", "100204", "no line 12");
     objects("100203", "100202", "more lines");
     objects("100203", "100303", "no line 11");

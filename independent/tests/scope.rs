@@ -135,9 +135,8 @@ fn starting_balances() {
 
 #[test]
 fn whole_example() {
-    let input = "01000a0101\n02000000000600000009\n02000000000600000008\n";
-    let output = "100203\n110000060000\n110100040003\n\
-                  1201010000000004\n1200010000040006\n1201020000070003\n";
+    let input = include_str!("../../examples/two-jobs.txt");
+    let output = include_str!("../../examples/two-jobs.plan.txt");
     assert_eq!(answer(input), output);
     assert_eq!(answer(&input.to_uppercase()), output);
     assert_eq!(answer(input.trim_end()), output);

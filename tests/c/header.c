@@ -1,5 +1,5 @@
-/* Holds include/clampfern.h to the library's entry: this does not compile, as C99 or C++98 or what came after them, where the header says anything
- * else. tests/header.sh defines PROVED_ANSWER_MOST, from the Rattle sources. */
+/* Holds include/clampfern.h to the library's entry and to its numbers: this does not compile, as C99 or C++98 or what came after them, where the
+ * header says anything else. tests/header.sh writes numbers.h from the Rattle sources: a row IS(NAME, NUMBER) for each CLAMPFERN_NAME. */
 #include "clampfern.h"
 #include "clampfern.h"
 #include <limits.h>
@@ -12,7 +12,9 @@ HOLDS(a_byte_has_8_bits, CHAR_BIT == 8 && sizeof(uint8_t) == 1);
 HOLDS(a_length_has_8_bytes, sizeof(size_t) == 8 && sizeof(unsigned long) == 8);
 HOLDS(a_pointer_has_8_bytes, sizeof(uint8_t *) == 8 && sizeof(planner *) == 8);
 HOLDS(the_result_has_8_bytes, sizeof clampfern_plan(0, 0, 0, 0) == 8);
-HOLDS(the_buffer_that_is_never_too_short_has_the_size_that_is_proved, CLAMPFERN_OUT_MOST == PROVED_ANSWER_MOST);
+
+#define IS(name, number) HOLDS(name##_is_the_sources_number, CLAMPFERN_##name == (number));
+#include "numbers.h"
 
 /* Each type is exactly this one. */
 extern planner *const entry;

@@ -27,10 +27,10 @@ fn all() -> Vec<String> {
         .map(|(window, cores, jobs)| set(window, cores, &jobs))
         .collect();
     // The whole example: as it stands, in capitals, without the last line feed.
-    let example = format!("{BOARD}02000000000600000009\n02000000000600000008\n");
+    let example = include_str!("../../../examples/two-jobs.txt");
     list.push(example.to_uppercase());
     list.push(example.trim_end().into());
-    list.push(example);
+    list.push(example.into());
     // Around 64 jobs, on a board with too little room and on one with plenty;
     // and what can stand in the place of the 65th job or after it.
     for board in [BOARD, "01ffff0808\n"] {
