@@ -38,6 +38,7 @@ proved_most() {
         [ -z "${!at:-}" ] || { echo "$name has two values" >&2 && return 1; }
         local "$at=$value"
     done < <(sed -E 's/^const ([A-Z0-9_]+): usize = (.*);$/\1 \2/' <<<"$constants")
+    # shellcheck disable=SC2154 # it is set by its name above
     echo "$((proved_ANSWER_MOST))"
 }
 most=$(proved_most) || { echo 'the sources give no ANSWER_MOST' && exit 1; }
