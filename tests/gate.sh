@@ -255,6 +255,22 @@ logged "refused at 'f returns', and not" "$rests" '+proofs/f/Proof.antt:9:1: err
 logged "refused at 'f returns-2', and not" "$rests" "note: +src/lib.rt:2:1: $unproved"
 logged "refused at 'm::f returns-2', and not" "note: +src/m.rt:2:1: $unproved"
 
+# ---- the promises and their edits
+# promised SAYING CHANGE: a page of promises with such a change of its last part, which is a crate's.
+promised() {
+    fails "$1" "sed -i '/^## clampfern/,\$$2' docs/PROMISES.md"
+}
+passes tests/promises.sh '3 functions, 3 edits'
+passes tests/promises.sh '3 functions, 4 edits' 'touch crates/text/must-fail/two.edit && sed -i "/^## text/,/^$/s/\[one\]; .*|/[one, two] |/" docs/PROMISES.md'
+promised 'crates/clampfern: `f(x)` names one edit, and does not say why' 's/one edit, since/for/'
+promised 'crates/clampfern: `f(x)` names no edit, and does not say why' 's/\[one\];/and/'
+promised 'crates/clampfern/must-fail/one: not named' 's/^## clampfern/## more/'
+promised 'crates/more/must-fail/one: named, and there is no such edit' 's/^## clampfern/## more/'
+promised 'crates/clampfern/must-fail/two: named, and there is no such edit' 's/^one\]/two]/'
+fails 'crates/text/must-fail/two: not named' 'touch crates/text/must-fail/two.edit'
+fails 'there is no row of a function' 'sed -i "s/^| function/| theorem/" docs/PROMISES.md'
+fails '' 'rm docs/PROMISES.md'
+
 # ---- the header
 # header SAYING CHANGE: a header with such a change.
 header() {
