@@ -271,6 +271,20 @@ fails 'crates/text/must-fail/two: not named' 'touch crates/text/must-fail/two.ed
 fails 'there is no row of a function' 'sed -i "s/^| function/| theorem/" docs/PROMISES.md'
 fails '' 'rm docs/PROMISES.md'
 
+# ---- the dictionaries
+# listed SAYING CHANGE: a file of definitions with such a change.
+listed() {
+    fails "crates/model/specs/Some.antt: $1" "sed -i '$2' crates/model/specs/Some.antt"
+}
+passes tests/dictionaries.sh 'names 3, files 1'
+listed 'does not list: two' 's/one, two /one      /'
+listed 'does not list: four' '$s/$/\npub four : one/'
+listed 'does not list: four' '$s/$/\npub data four : Type 0 where/'
+listed 'lists what it does not define: four' 's/one, two /one, two, four /'
+listed 'lists twice: one' 's/one, two /one, two, one /'
+listed 'line 2 has no two blanks before a meaning' '2s/two  */two /'
+fails 'there is no file of definitions' 'rm crates/*/specs/Some.antt'
+
 # ---- the header
 # header SAYING CHANGE: a header with such a change.
 header() {
