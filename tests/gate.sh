@@ -285,6 +285,16 @@ listed 'lists twice: one' 's/one, two /one, two, one /'
 listed 'line 2 has no two blanks before a meaning' '2s/two  */two /'
 fails 'there is no file of definitions' 'rm crates/*/specs/Some.antt'
 
+# ---- the layout of the independent planner, and what is found in it and in the scripts
+passes tests/lint.sh 'cargo fmt: nothing found, cargo clippy: nothing found, shellcheck: nothing found'
+passes tests/lint.sh 'cargo fmt: nothing found, cargo clippy: nothing found, shellcheck: not on this machine' 'echo shellcheck >said/absent'
+passes tests/lint.sh 'cargo fmt: not on this machine, cargo clippy: not on this machine, shellcheck: nothing found' 'printf "cargo fmt\ncargo clippy\n" >said/absent'
+fails 'cargo fmt: this is not to be' 'echo Diff >said/fmt'
+fails 'cargo clippy: this is not to be' 'echo warning >said/clippy'
+for name in .ci/run tests/plan.sh tools/compare tools/x86-64.sh; do
+    fails "$name:fault" "echo fault >>$name"
+done
+
 # ---- the header
 # header SAYING CHANGE: a header with such a change.
 header() {
