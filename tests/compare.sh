@@ -1,6 +1,6 @@
 #!/usr/bin/env bash
-# The planner's answers are the independent planner's, byte for byte, and the checker objects to none: the named sets, all small sets, and random texts.
-# The random texts are the same in each run; SEED and COUNT in the environment choose others.
+# The planner's answers are the independent planner's, byte for byte, and the checker objects to none: the named sets, all small sets, and random
+# texts. The random texts are the same in each run; SEED and COUNT in the environment choose others.
 set -u -o pipefail
 cd "$(dirname "$0")/.." || exit 2
 seed=${SEED:-1}

@@ -1,7 +1,7 @@
 #!/usr/bin/env bash
-# The program `facts`, as built by `rt check`: the starting balance and the moves, or the refusal, of some sets; and that it never says `lent wrong`, which
-# it would where the lent call kept to other rows, or gave other moves, than it should. First a table: a row is a set's lines and the lines to be said of
-# it. Then many texts, of which the independent planner says the same.
+# The program `facts`, as built by `rt check`: the starting balance and the moves, or the refusal, of some sets; and that it never says `lent wrong`,
+# which it would where the lent call kept to other rows, or gave other moves, than it should. First a table: a row is a set's lines and the lines to
+# be said of it. Then many texts, of which the independent planner says the same.
 set -u -o pipefail
 cd "$(dirname "$0")/.." || exit 2
 . tools/x86-64.sh

@@ -1,6 +1,6 @@
 #!/usr/bin/env bash
-# The gate and its tests cannot be hollowed out. Each is run on a small stand-in of the repository, in which `rt`, `cargo`, the C compiler and the independent
-# planner say what the files of said/ have: it passes there, and fails, saying why, once something is taken away or made wrong.
+# The gate and its tests cannot be hollowed out. Each is run on a small stand-in of the repository, in which `rt`, `cargo`, the C compiler and the
+# independent planner say what the files of said/ have: it passes there, and fails, saying why, once something is taken away or made wrong.
 set -u -o pipefail
 cd "$(dirname "$0")/.." || exit 2
 room=$(mktemp -d) || exit
@@ -10,11 +10,11 @@ tries=0
 unset SEED COUNT
 
 # ---- the stand-in, and the programs that stand in
-mkdir -p "$room/whole/said" "$room/whole/independent/target/release" "$room/bin"
+mkdir -p "$room/whole/said" "$room/whole/docs" "$room/whole/independent/target/release" "$room/bin"
 cp -R .ci README.md examples include tests tools "$room/whole"
 cp --parents docs/SPEC.md docs/REFUSALS.md crates/plan/stdin crates/plan/stdout crates/model/specs/Limits.antt "$room/whole"
 cp -R independent/tests "$room/whole/independent"
-eval "$(grep '^tests=(' .ci/run)"
+read -ra tests < <(sed -nE 's/^tests=\((.*)\)$/\1/p' .ci/run)
 libraries=(model text clampfern)
 (
     cd "$room/whole" || exit
@@ -23,12 +23,19 @@ libraries=(model text clampfern)
     for crate in "${libraries[@]}"; do
         mkdir -p "crates/$crate/must-fail" "target/must-fail/$crate/one"
         cp -R "$OLDPWD/crates/$crate/src" "crates/$crate"
-        touch "crates/$crate/must-fail/one.edit"
-        echo 'src/lib.rt:1:1: error: not a fact' >"target/must-fail/$crate/one/.log"
-    done
+        printf '%s\n' 'shows: a wrong answer' 'at: a-fact' 'file: src/lib.rt' 'old: a' 'new: b' >"crates/$crate/must-fail/one.edit"
+        echo "/top/target/must-fail/$crate/one/proofs/Facts.antt:1:1: error: \`a-fact\`: it does not follow" >"target/must-fail/$crate/one/.log"
+        printf '%s\n' "## $crate" '| function | rules out |' '|---|---|' '| `f(x)` | a wrong answer [one]; one edit, since no other is wrong |' \
+            '' '| theorem | says |' '|---|---|' '| `law` | what holds |' '' 'Names may go on in the next line [one,' 'one].' ''
+    done >docs/PROMISES.md
+    mkdir crates/model/specs
+    printf '%s\n' '-- Some definitions.' '--   one, two   numbers; more' '--   Three      a record, and' '--              its fields' '' '--   four   none' \
+        'abbrev pub one : ℕ' 'unfoldable pub two : ℕ' 'abbrev own : ℕ' 'pub record Three : Type 0 where' '  pub field : ℕ' >crates/model/specs/Some.antt
+    touch crates/model/specs/Lib.antt
     cd said || exit
     echo 'kit logic 0123' >version
     echo 0 >status
+    touch absent
     {
         printf 'logic=proved functions=1 sum=0123 native=nat\nrt: %s proved (1 s)\n' "${libraries[@]}" plan
         printf 'rt: must-fail %s/one: refused, as it must be (first at src/lib.rt:1:1; 1 s)\n' "${libraries[@]}"
@@ -59,7 +66,16 @@ esac
 END
 cat >"$room/bin/cargo" <<'END'
 #!/bin/sh
-[ "$1" != test ] || cat ../said/cargo
+case "$*" in
+test*) cat ../said/cargo ;;
+*--version) ! grep -qx "cargo $1" ../said/absent ;;
+fmt* | clippy*) [ ! -e "../said/$1" ] || { cat "../said/$1" && exit 1; } ;;
+esac
+END
+cat >"$room/bin/shellcheck" <<'END'
+#!/bin/sh
+[ "$1" != --version ] || ! grep -qx shellcheck said/absent || exit
+for file; do [ ! -f "$file" ] || ! grep -Hx fault "$file" || exit 1; done
 END
 cat >"$room/bin/cc" <<'END'
 #!/bin/sh
@@ -110,15 +126,15 @@ try() {
 
 wrong() {
     printf '%s: %s\n' "$script" "$1"
-    sed 's/^/    /' <<<"$said" | tail -n 12
+    tail -n 12 <<<"$said" | sed 's/^/    /'
     bad=1
 }
 
-# passes SCRIPT LAST: it passes as it is, and its last line is this. The lines after are about this script.
+# passes SCRIPT LAST [CHANGE]: it passes as it is, or after a change that it bears, and its last line is this. The lines after are about this script.
 passes() {
     script=$1 path=$room/bin:$PATH
     [ "$script" != tests/header.sh ] || path=$PATH
-    try :
+    try "${3:-:}"
     [ "$status" = 0 ] && [ "${said##*$'\n'}" = "$2" ] || wrong 'does not pass where all is well'
 }
 
@@ -209,12 +225,81 @@ fails '' 'echo exit 1 >>said/frames'
 fails 'fewer than 321354 texts were compared' 'echo "#!/bin/sh" >tools/compare'
 
 # ---- the must-fail edits' facts
+# edit SAYING CHANGE: an edit with such a change.
+edit() {
+    fails "crates/text/must-fail/one.edit: $1" "sed -i '$2' crates/text/must-fail/one.edit"
+}
+# logged SAYING LINE..: the log of an edit with these lines. A + stands for the place of the edited copy.
+logged() {
+    printf '%s\n' "${@:2}" | sed 's,+,/top/target/must-fail/text/one/,' >"$room/log"
+    fails "crates/text/must-fail/one.edit: $1" 'cp "$room/log" target/must-fail/text/one/.log'
+}
+fact='+proofs/Facts.antt:1:1: error: `a-fact`: it does not follow'
+rests='+proofs/g/Proof.antt:9:1: error: `g-spec`: `close` was not admitted (it was rejected), so this cannot be checked'
+unproved='it is not proved that what the function ensures holds when it returns (`returns-2`)'
+mkdir -p "$room/whole/target/must-fail/text/one/src"
+printf '%s\n' '// a function' 'pub fn f(x: u8) -> u8' | tee "$room/whole/target/must-fail/text/one/src/lib.rt" >"$room/whole/target/must-fail/text/one/src/m.rt"
 passes tests/must-fail-at-a-fact.sh '3 edits'
+passes tests/must-fail-at-a-fact.sh '3 edits' 'sed -i "s/^file: src/file: specs/" crates/text/must-fail/one.edit && mv crates/text/must-fail/{,definition_}one.edit &&
+    mv target/must-fail/text/{,definition_}one && sed -i s,/one/,/definition_one/, target/must-fail/text/definition_one/.log'
 fails 'crates/text: no must-fail edit' 'rm crates/text/must-fail/one.edit'
 fails 'crates/text: no must-fail edit' 'rm -r crates/*/must-fail'
 fails 'text/must-fail/one.edit: no log' 'rm target/must-fail/text/one/.log'
-fails 'text/must-fail/one.edit: refused, but not at a fact' ': >target/must-fail/text/one/.log'
-fails 'text/must-fail/one.edit: refused, but not at a fact' 'echo "x: error: x has no \`Need-1\`" >target/must-fail/text/one/.log'
+edit "the first line is no 'shows:'" 's/^shows: .*/shows: /'
+edit "the second line is no 'at:'" 2d
+edit "refused at 'a-fact', and not at 'b-fact'" s/a-fact/b-fact/
+edit "changes a definition, and is not named 'definition_..'" 's/^file: src/file: specs/'
+edit "changes a definition, and is not named 'definition_..'" 's/^old: .*/old:     ensures { a }/'
+fails "changes no definition, and is named 'definition_..'" 'mv crates/text/must-fail/{,definition_}one.edit'
+logged 'refused, but not at a fact' ''
+logged 'refused, but not at a fact' '+proofs/f/Proof.antt:9:1: error: `returns`: x has no `Need-1`' "$fact"
+logged 'refused, but not at a fact' '+proofs/f/Proof.antt:9:1: error: `returns`: `x` is not in scope' "$fact"
+logged 'refused, but not at a fact' '+src/lib.rt:1:1: error[parse]: no' "$fact"
+logged 'refused, but not at a fact' "$rests"
+logged "refused at 'm::f returns', and not" '+proofs/m/f/Proof.antt:9:1: error: `returns`: it does not follow' "$fact"
+logged "refused at 'f returns', and not" "$rests" '+proofs/f/Proof.antt:9:1: error: `returns`: it does not follow'
+logged "refused at 'f returns-2', and not" "$rests" "note: +src/lib.rt:2:1: $unproved"
+logged "refused at 'm::f returns-2', and not" "note: +src/m.rt:2:1: $unproved"
+
+# ---- the promises and their edits
+# promised SAYING CHANGE: a page of promises with such a change of its last part, which is a crate's.
+promised() {
+    fails "$1" "sed -i '/^## clampfern/,\$$2' docs/PROMISES.md"
+}
+passes tests/promises.sh '3 functions, 3 edits'
+passes tests/promises.sh '3 functions, 4 edits' 'touch crates/text/must-fail/two.edit && sed -i "/^## text/,/^$/s/\[one\]; .*|/[one, two] |/" docs/PROMISES.md'
+promised 'crates/clampfern: `f(x)` names one edit, and does not say why' 's/one edit, since/for/'
+promised 'crates/clampfern: `f(x)` names no edit, and does not say why' 's/\[one\];/and/'
+promised 'crates/clampfern/must-fail/one: not named' 's/^## clampfern/## more/'
+promised 'crates/more/must-fail/one: named, and there is no such edit' 's/^## clampfern/## more/'
+promised 'crates/clampfern/must-fail/two: named, and there is no such edit' 's/^one\]/two]/'
+fails 'crates/text/must-fail/two: not named' 'touch crates/text/must-fail/two.edit'
+fails 'there is no row of a function' 'sed -i "s/^| function/| theorem/" docs/PROMISES.md'
+fails '' 'rm docs/PROMISES.md'
+
+# ---- the dictionaries
+# listed SAYING CHANGE: a file of definitions with such a change.
+listed() {
+    fails "crates/model/specs/Some.antt: $1" "sed -i '$2' crates/model/specs/Some.antt"
+}
+passes tests/dictionaries.sh 'names 3, files 1'
+listed 'does not list: two' 's/one, two /one      /'
+listed 'does not list: four' '$s/$/\npub four : one/'
+listed 'does not list: four' '$s/$/\npub data four : Type 0 where/'
+listed 'lists what it does not define: four' 's/one, two /one, two, four /'
+listed 'lists twice: one' 's/one, two /one, two, one /'
+listed 'line 2 has no two blanks before a meaning' '2s/two  */two /'
+fails 'there is no file of definitions' 'rm crates/*/specs/Some.antt'
+
+# ---- the layout of the independent planner, and what is found in it and in the scripts
+passes tests/lint.sh 'cargo fmt: nothing found, cargo clippy: nothing found, shellcheck: nothing found'
+passes tests/lint.sh 'cargo fmt: nothing found, cargo clippy: nothing found, shellcheck: not on this machine' 'echo shellcheck >said/absent'
+passes tests/lint.sh 'cargo fmt: not on this machine, cargo clippy: not on this machine, shellcheck: nothing found' 'printf "cargo fmt\ncargo clippy\n" >said/absent'
+fails 'cargo fmt: this is not to be' 'echo Diff >said/fmt'
+fails 'cargo clippy: this is not to be' 'echo warning >said/clippy'
+for name in .ci/run tests/plan.sh tools/compare tools/x86-64.sh; do
+    fails "$name:fault" "echo fault >>$name"
+done
 
 # ---- the header
 # header SAYING CHANGE: a header with such a change.

@@ -29,7 +29,7 @@ treated() {
 # with_pipe: a new pipe, with descriptor 8 to write to it and 7 to read from it. Nothing here waits for the other end, and it ends once 8 is closed.
 with_pipe() {
     rm -f "$made/pipe"
-    mkfifo "$made/pipe" && exec 8<>"$made/pipe" 7<"$made/pipe"
+    mkfifo "$made/pipe" && exec 8<>"$made/pipe" && exec 7<"$made/pipe"
 }
 
 # unwaiting NAME WANT COMPLAINT BYTES [MORE]: what it answers to bytes in a pipe that does not wait; with MORE, there is more to come.
@@ -46,13 +46,18 @@ unwaiting() {
 
 # signalled NAME SIGNAL..: it answers the example, and the signals that it gets while it waits for the second half change nothing.
 signalled() {
-    local process signal
+    local process signal rounds
     with_pipe
     printf %s "${example:0:32}" >&8
     CATCHING=1 tools/run --preload target/c/streams.so plan <&7 7<&- 8>&- >"$out" 2>"$err" &
     process=$!
+    # it waits for more once it has taken the first half
+    for ((rounds = 0; rounds < 200; rounds++)); do
+        read -r -t 0 -u 7 || break
+        sleep 0.05
+    done
     exec 7<&-
-    sleep 1
+    sleep 0.1
     for signal in "${@:2}"; do
         kill -s "$signal" "$process"
         sleep 0.1
@@ -88,9 +93,9 @@ answers '100,000 bytes' $'1f0800\n' digits 100000
 # The longest answer: 64 jobs on 8 and 8 cores with 94 slices (planner/specs/Most.antt has the same set).
 longest() {
     printf '01%04x0808\n' 1000
-    printf '0200%08x%08x\n' $(times 15 '800 1338 ') 400 900
-    printf '0201%08x00000000\n' $(times 24 '10 ')
-    printf '020200000000%08x\n' $(times 24 '5 ')
+    { times 15 '800 1338 ' && echo 400 900; } | xargs printf '0200%08x%08x\n'
+    times 24 '10 ' | xargs printf '0201%08x00000000\n'
+    times 24 '5 ' | xargs printf '020200000000%08x\n'
 }
 longest | "${run[@]}" >"$out" 2>"$err"
 if [ "${PIPESTATUS[1]} $(wc -c <"$out") $(head -n 1 "$out") $(wc -l <"$out") $(wc -c <"$err")" != "0 $(header_number OUT_MOST) 10405e 159 0" ]; then

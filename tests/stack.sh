@@ -1,7 +1,8 @@
 #!/usr/bin/env bash
-# The stack that a call needs at its deepest, read off the code as it is built (tools/stack): of the C entry in the example in C, and of the lent planning call in
-# the program `facts`. There the compiler takes the call into its one caller, which also owns the tables that it lends and their copies in its answer: these
-# are taken off, which is right while the compiler keeps them in that frame. Neither call needs more than is promised; the C header promises the same.
+# The stack that a call needs at its deepest, read off the code as it is built (tools/stack): of the C entry in the example in C, and of the lent
+# planning call in the program `facts`. There the compiler takes the call into its one caller, which also owns the tables that it lends and their
+# copies in its answer: these are taken off, which is right while the compiler keeps them in that frame. Neither call needs more than is promised; the
+# C header promises the same.
 set -u -o pipefail
 cd "$(dirname "$0")/.." || exit 2
 . tools/x86-64.sh

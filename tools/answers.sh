@@ -1,5 +1,6 @@
-# For a test of a program that rt built: `program=NAME`, and then it is sourced from the top of the repository. The test runs the program by "${run[@]}" with
-# its outputs to the files "$out" and "$err", asks `is` of each answer, and ends with `exit $bad`. `seen` counts the answers.
+# For a test of a program that rt built: `program=NAME`, and then it is sourced from the top of the repository. The test runs the program by
+# "${run[@]}" with its outputs to the files "$out" and "$err", asks `is` of each answer, and ends with `exit $bad`. `seen` counts the answers.
+# shellcheck shell=bash disable=SC2034 # who sources it uses them
 bad=0
 seen=0
 made=$(mktemp -d) || exit

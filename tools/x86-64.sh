@@ -1,13 +1,14 @@
-# For scripts that run or build x86-64 programs; they source it from the top of the repository. `emulator` is the words that run such a program,
-# none on x86-64 itself, `toolchain` the kit's folder with its C library, and `loader` the words before a program that rt built. On another processor the emulator is the kit's own, and `cc`, `cxx` and
-# `nm` are Debian's for x86-64.
+# For scripts that run or build x86-64 programs; they source it from the top of the repository. `emulator` is the words that run such a program, none
+# on x86-64 itself, `toolchain` the kit's folder with its C library, and `loader` the words before a program that rt built. On another processor the
+# emulator is the kit's own, and `cc`, `cxx` and `nm` are Debian's for x86-64.
+# shellcheck shell=bash disable=SC2034 # who sources it uses them
 machine=$(uname -m)
 kit=$(dirname "$(dirname "$(rt doc)")")
 toolchain=$kit/on/$machine/toolchain
 [ -d "$toolchain" ] || toolchain=$kit/toolchain
 emulator=$toolchain/bin/qemu-x86_64
 [ -x "$emulator" ] || emulator=
-loader=($emulator "$toolchain/lib/ld-linux-x86-64.so.2" --library-path "$toolchain/lib")
+loader=(${emulator:+"$emulator"} "$toolchain/lib/ld-linux-x86-64.so.2" --library-path "$toolchain/lib")
 if [ "$machine" = x86_64 ]; then
     cc=cc cxx=c++ nm=nm objdump=objdump compilers=(gcc g++ libc6-dev)
 else
@@ -50,7 +51,8 @@ c_program() {
     quietly rt staticlib clampfern && compile $static -Iinclude -o "target/c/$name" "tests/c/$name.c" target/staticlib/libclampfern.a "$@"
 }
 
-# c_preload NAME: builds target/c/NAME.so from tests/c/NAME.c, to be preloaded (tools/run). It takes the C library of the program that it is loaded into.
+# c_preload NAME: builds target/c/NAME.so from tests/c/NAME.c, to be preloaded (tools/run). It takes the C library of the program that it is loaded
+# into.
 c_preload() {
     compile -shared -fPIC -nostdlib -o "target/c/$1.so" "tests/c/$1.c"
 }

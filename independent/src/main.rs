@@ -11,7 +11,8 @@ use independent::compare_facts::Task;
 use independent::family::Family;
 use independent::{bench, command, compare, facts, frames, text};
 
-const USAGE: &str = "usage: independent plan | facts | answers | FAMILY | compare FAMILY | bench GROUP
+const USAGE: &str =
+    "usage: independent plan | facts | answers | FAMILY | compare FAMILY | bench GROUP
        independent compare-facts [--every N] FAMILY -- COMMAND [ARGUMENT]...
 FAMILY: named | small | gen SEED COUNT [FROM]
 GROUP: a number of jobs | worst | refused";

@@ -7,11 +7,11 @@ use independent::command;
 use independent::compare_facts::Task;
 use independent::family::Family;
 
-const SECOND: &str = env!("CARGO_BIN_EXE_second");
+const PROGRAM: &str = env!("CARGO_BIN_EXE_independent");
 
 /// Runs `independent compare-facts` with the words of a line, then with a command.
 fn compare(line: &str, command: &[&str]) -> Output {
-    Command::new(SECOND)
+    Command::new(PROGRAM)
         .arg("compare-facts")
         .args(line.split(' '))
         .arg("--")
@@ -37,12 +37,12 @@ fn fails(line: &str, command: &[&str]) -> String {
 
 #[test]
 fn the_facts_of_this_planner_agree() {
-    let counts = agrees("named", &[SECOND, "facts"]);
+    let counts = agrees("named", &[PROGRAM, "facts"]);
     assert_eq!(
         counts,
         "texts 54\naccepted 18\nrefused for room 5\nrefused otherwise 31\n"
     );
-    let counts = agrees("--every 10 gen 3 95 40", &[SECOND, "facts"]);
+    let counts = agrees("--every 10 gen 3 95 40", &[PROGRAM, "facts"]);
     assert!(counts.starts_with("texts 10\n"), "{counts}");
 }
 
@@ -67,7 +67,7 @@ fn the_index_is_that_in_the_family() {
     let verdict = task.run(|input| {
         asked += 1;
         let word = if asked == 10 { "plan" } else { "facts" };
-        command::run(&[SECOND.into(), word.into()], input)
+        command::run(&[PROGRAM.into(), word.into()], input)
     });
     let failure = verdict.unwrap().unwrap_err();
     assert_eq!((asked, failure.index), (10, 32));
@@ -81,7 +81,7 @@ fn status_and_standard_error_count() {
         ("exit 3", "the command ended with exit status: 3"),
         ("echo no >&2", "standard error is not empty: no\\n"),
     ] {
-        let script = format!("'{SECOND}' facts; {more}");
+        let script = format!("'{PROGRAM}' facts; {more}");
         let told = fails("named", &["sh", "-c", &script]);
         let last = format!("\nnamed, index 0: {message}\n");
         assert!(told.ends_with(&last), "{told}");
@@ -90,10 +90,10 @@ fn status_and_standard_error_count() {
 
 #[test]
 fn no_text_or_no_command() {
-    let told = fails("gen 1 0", &[SECOND, "facts"]);
-    assert_eq!(told, "second: gen, seed 1: no text was compared\n");
+    let told = fails("gen 1 0", &[PROGRAM, "facts"]);
+    assert_eq!(told, "independent: gen, seed 1: no text was compared\n");
     let told = fails("named", &["./no-such-command"]);
-    assert!(told.starts_with("second: named, index 0: ./no-such-command: "));
+    assert!(told.starts_with("independent: named, index 0: ./no-such-command: "));
 }
 
 #[test]
