@@ -24,6 +24,6 @@ for page in README.md docs/SPEC.md; do
     is_stored "$page" examples/two-jobs.plan.txt < <(shown "$page" '10|11|12')
 done
 # on these `rt ci` runs the program
-is_stored crates/plan/stdin examples/two-jobs.txt <crates/plan/stdin
-is_stored crates/plan/stdout examples/two-jobs.plan.txt <crates/plan/stdout
+is_stored 'the input of plan' examples/two-jobs.txt <crates/plan/stdin
+is_stored 'the output of plan' examples/two-jobs.plan.txt <crates/plan/stdout
 exit $bad

@@ -66,8 +66,8 @@ sed -E 's/(.*) (.*)/IS(\1, \2)/' "$temporary/numbers" >"$temporary/numbers.h"
 
 # Nothing of the header has another name. The stack is tests/stack.sh's.
 named=$("${alone[@]}" -dM "$header" | sed -nE 's/^#define (CLAMPFERN_[A-Z0-9_]+) ..*/\1/p' && grep -oE 'CLAMPFERN_[A-Z0-9_]+' <<<"$declared")
-more=$(LC_ALL=C comm -23 <(sed 's/^CLAMPFERN_//' <<<"$named" | LC_ALL=C sort) <(sed 's/ .*//; $a STACK_MOST' "$temporary/numbers" | LC_ALL=C sort))
-[ -z "$more" ] || wrong "$header has numbers that the sources have not:" $more
+more=$(LC_ALL=C comm -23 <(printf '%s\n' "${named//CLAMPFERN_/}" | LC_ALL=C sort) <(sed 's/ .*//; $a STACK_MOST' "$temporary/numbers" | LC_ALL=C sort))
+[ -z "$more" ] || wrong "$header has numbers that the sources have not: ${more//$'\n'/ }"
 
 # The page for readers in C has a row for each refusal.
 while read -r name number; do
