@@ -1,5 +1,6 @@
--- What the answer of a call of read or write says.
---   Said   bytes moved above 0, the end at 0, and below 0 an interruption, of which a spare one is used up, or a failure: never the end
+-- Internal: no public promise cites this. What the answer of a call of read or write says.
+--   Unmoved   a call below 0 is an interruption, of which a spare one is used up, or a failure: never the end
+--   Said      bytes moved above 0, the end at 0, and what is Unmoved below
 -- Assumes nothing.
 use mathlib.Core.Path.{_≡_}
 use Prim.Native.Nat.{ℕ, zero, suc, _<_}
