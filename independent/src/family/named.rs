@@ -49,8 +49,8 @@ fn all() -> Vec<String> {
     list
 }
 
-/// Window, cores and jobs: all rows of the table, Table I of source document
-/// 003, and the set with the greatest number of slices.
+/// Window, cores and jobs: all rows of the table, the set of the paper's Table I
+/// (docs/SOURCES.md), and the set with the greatest number of slices.
 fn sets() -> Vec<(u32, [u32; 2], Vec<Job>)> {
     let mut most_slices = vec![B(800, 1338); 15];
     most_slices.push(B(400, 900));
