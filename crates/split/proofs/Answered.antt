@@ -4,8 +4,8 @@ use mathlib.Core.Bool.{true}
 use mathlib.Core.List.{List}
 use Prim.Native.Nat.{ℕ, zero, suc, _-_, _≤_, _<_}
 use native.Mathlib.Omega.{arith}
-use lib.ListN.{drop, replicate}
 use borrow.Author.Tests.{le-leb, le-ltb, lt-ltb}
+use lib.ListN.{drop, replicate}
 use Rattle.model.specs.Limits.{jobsMost}
 use Rattle.model.specs.Refusal.{Answer, given, refused, saysRefusal}
 use Rattle.model.specs.Split.{Ticks}
@@ -14,8 +14,8 @@ use Rattle.model.specs.declared.Kind.the-variants.{First, Second}
 use Rattle.model.specs.declared.Job.{Job}
 use Rattle.model.specs.declared.Refusal.{Refusal}
 use Rattle.split.specs.Steps.{hereSum, thereSum}
-use Rattle.split.specs.Shares.{sharesSeen, homeRows, homeTicks, settled, relieved, byOver, splitOf, none, Answers}
-use Rattle.split.specs.Columns.{Answered}
+use Rattle.split.specs.Shares.{sharesSeen, homeRows, homeTicks, settled, relieved, byOver, splitOf, Answers}
+use Rattle.split.specs.Columns.{Answered, none}
 use Rattle.split.specs.Rows.{Row}
 use Rattle.split.specs.declared.Outcome.the-variants.{Shares}
 use Rattle.split.proofs.Homes.{home-there}

@@ -5,26 +5,26 @@ use mathlib.Core.Bool.{Bool, true, false, cond, _&&_}
 use mathlib.Core.List.{List, [], _∷_, _++_, map, map-map}
 use Prim.Native.Nat.{ℕ, zero, suc, _≤_, _<_}
 use native.Mathlib.Omega.{arith}
+use borrow.Author.Tests.{leb-true, leb-false, ne-eqb, le-ltb, lt-ltb}
 use lib.Dec.{leb, ltb, eqb}
 use lib.ListN.{length, getD, drop}
 use lib.Seq.{drop-at}
-use borrow.Author.Tests.{leb-true, leb-false, ne-eqb, le-ltb, lt-ltb}
-use Rattle.model.specs.Board.{on}
 use Rattle.rows.specs.Lists.{All}
 use Rattle.rows.specs.Upto.{upto, at}
 use Rattle.rows.proofs.Upto.{upto-length, upto-at, upto-same, upto-map, front}
+use Rattle.model.specs.Board.{on}
 use Rattle.model.specs.Refusal.{given, refused}
 use Rattle.model.specs.Split.{Ticks}
+use Rattle.model.specs.Columns.{jobAt, jobsIn, sharesIn}
 use Rattle.model.specs.declared.Kind.{Kind}
 use Rattle.model.specs.declared.Kind.the-variants.{First, Second}
 use Rattle.model.specs.declared.Job.{Job}
-use Rattle.model.specs.Columns.{jobAt, jobsIn, sharesIn}
 use Rattle.model.proofs.Columns.{Case, on-first, on-second, on-both, case}
 use Rattle.legal.specs.Lawful.{LegalJob}
 use Rattle.split.specs.Home.{bothRow, atHome}
-use Rattle.split.specs.Steps.{hereSum, thereSum, noRow, stepsOf, Movable, Ready, Summed}
+use Rattle.split.specs.Steps.{hereSum, thereSum, stepsOf}
 use Rattle.split.specs.Shares.{shareOf, sharesSeen, homeRows, settled, relieved, splitOf}
-use Rattle.split.specs.Columns.{rowAt, rowsIn, bare, markOf, marksIn, says, Stepped, GoneHome, Relieved, Answered}
+use Rattle.split.specs.Columns.{rowAt, rowsIn, bare, markOf, marksIn, says, Stepped, GoneHome, Relieved, Answered, noRow, Movable, Ready, Summed}
 use Rattle.split.specs.Rows.{Row}
 use Rattle.split.specs.declared.Sums.{Sums}
 use Rattle.split.proofs.Homes.{home-ready, home-there, home-here}

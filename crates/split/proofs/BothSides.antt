@@ -11,6 +11,7 @@ use mathlib.Core.List.{List, [], _∷_, map}
 use mathlib.Core.Path.{_≡_, refl}
 use Prim.Native.Nat.{ℕ, _+_}
 use native.Mathlib.Omega.{arith}
+use Rattle.rows.specs.Lists.{lowest}
 use Rattle.model.specs.Board.{roomOf}
 use Rattle.model.specs.Refusal.{given, refused}
 use Rattle.model.specs.Split.{Ticks, share, DoneBy, AllDone, ticksOf, Split}
@@ -18,7 +19,6 @@ use Rattle.model.specs.declared.Kind.the-variants.{First, Second}
 use Rattle.model.specs.declared.Job.{Job}
 use Rattle.model.proofs.BothSides.{board, B, F, S}
 use Rattle.legal.specs.Legal.{legalOf}
-use Rattle.rows.specs.Lists.{lowest}
 use Rattle.split.specs.Home.{stretchedAt}
 use Rattle.split.specs.Promise.{smaller, Accepted, Demands, Exactly}
 

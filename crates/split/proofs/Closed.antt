@@ -8,16 +8,17 @@ use mathlib.Core.Logic.{_≢_}
 use Prim.Native.Nat.{ℕ, zero, suc, _+_, _≤_, _<_}
 use native.Mathlib.Decide.{ℕ-discrete}
 use native.Mathlib.Omega.{arith}
+use borrow.Author.Tests.{leb-true, leb-false, ltb-true, ltb-false}
 use lib.Dec.{leb, ltb}
 use lib.ListN.{length, getD, set, length-set}
 use lib.Seq.{getD-set-same, getD-set-other, ext-getD}
-use borrow.Author.Tests.{leb-true, leb-false, ltb-true, ltb-false}
+use Rattle.rows.proofs.Numbered.{each-length, each-at, each-same, each-set, each-upto}
 use Rattle.split.specs.Home.{keepOf}
-use Rattle.split.specs.Steps.{hereSum, ahead, nextOf, movedOf, stepOf, stepsOf, noRow, Movable, Ready}
+use Rattle.split.specs.Steps.{hereSum, ahead, nextOf, movedOf, stepOf, stepsOf}
+use Rattle.split.specs.Columns.{noRow, Movable, Ready}
 use Rattle.split.specs.Closed.{before, atTurn, turnSum, placedOf, closedOf}
 use Rattle.split.specs.Rows.{Row, Next, Nobody, At}
 use Rattle.split.proofs.NextRow.{Leads, IsNext, next-law}
-use Rattle.rows.proofs.Numbered.{each-length, each-at, each-same, each-set, each-upto}
 use Rattle.split.proofs.Totals.{sum-set, set-each, waiting, waiting-most, waiting-none, none-waiting}
 use Rattle.split.proofs.Placed.{placed-still, placed-over, placed-within, keep-near, Goes, end, part, moved-goes}
 

@@ -6,21 +6,21 @@ use mathlib.Core.List.{List, [], _∷_, _++_, map}
 use Prim.Native.Nat.{ℕ, zero, suc, _+_, _-_, _*_, _≤_, _<_}
 use native.Mathlib.Nat.{zero-add}
 use native.Mathlib.Omega.{arith}
+use borrow.Author.Tests.{ltb-true, ltb-false, lt-ltb, le-ltb}
 use lib.Dec.{leb, ltb}
 use lib.ListN.{length, set, drop, length-set}
 use lib.Seq.{getD-set-same, getD-set-other, drop-set-lt}
-use borrow.Author.Tests.{ltb-true, ltb-false, lt-ltb, le-ltb}
 use Rattle.rows.specs.Lists.{sumOf}
 use Rattle.rows.specs.Upto.{at}
 use Rattle.rows.proofs.Upto.{upto-length, upto-at, upto-same, upto-more, upto-sum, upto-set, upto-map, fill}
 use Rattle.model.specs.Columns.{jobAt, jobsIn}
-use Rattle.split.specs.Home.{keepOf, bothRow, atHome}
-use Rattle.split.specs.Steps.{hereSum, thereSum, sumMost, ahead, better, nextFrom, nextOf, noRow, movedOf, stepOf, stepsOf, Movable, Ready, Asks, Summed}
-use Rattle.split.specs.Columns.{rowAt, rowsIn, bare, bestOf, betterOf, Found, Advanced, Stepped, endOf, GoneHome}
-use Rattle.split.specs.Shares.{homeRows}
-use Rattle.split.specs.declared.Ends.{Ends}
 use Rattle.model.specs.declared.Kind.the-variants.{First}
+use Rattle.split.specs.Home.{keepOf, bothRow, atHome}
+use Rattle.split.specs.Steps.{hereSum, thereSum, ahead, better, nextFrom, nextOf, movedOf, stepOf, stepsOf}
+use Rattle.split.specs.Columns.{rowAt, rowsIn, bare, bestOf, betterOf, Found, Advanced, Stepped, endOf, GoneHome, sumMost, noRow, Movable, Ready, Asks, Summed}
+use Rattle.split.specs.Shares.{homeRows}
 use Rattle.split.specs.Rows.{Row, Next, Nobody, At}
+use Rattle.split.specs.declared.Ends.{Ends}
 use Rattle.split.specs.declared.Best.{Best}
 use Rattle.split.specs.declared.Sums.{Sums}
 use Rattle.split.proofs.NextRow.{Leads, IsNext, next-law}

@@ -6,20 +6,21 @@ use mathlib.Core.List.{List, [], _∷_}
 use Prim.Native.Nat.{ℕ, zero, suc, _≤_, _<_}
 use native.Mathlib.Nat.{not-suc-le-zero, le-of-suc-le-suc}
 use native.Mathlib.Omega.{arith}
-use lib.Dec.{leb, ltb}
 use borrow.Author.Tests.{leb-true, leb-false, ltb-true, le-ltb, lt-ltb}
-use Rattle.model.specs.Columns.{jobAt, jobsIn}
+use lib.Dec.{leb, ltb}
 use Rattle.rows.specs.Upto.{at}
 use Rattle.rows.specs.Lists.{All}
 use Rattle.rows.proofs.Upto.{upto-at, upto-length}
 use Rattle.rows.proofs.Lists.{all-at}
+use Rattle.model.specs.Columns.{jobAt, jobsIn}
 use Rattle.model.specs.declared.Kind.{Kind}
 use Rattle.model.specs.declared.Kind.the-variants.{First, Second}
 use Rattle.model.specs.declared.Job.{Job}
 use Rattle.model.specs.declared.Job.the-variants.{Both, OnlyFirst, OnlySecond}
 use Rattle.legal.specs.Lawful.{LegalJob}
 use Rattle.split.specs.Home.{atHome, bothRow}
-use Rattle.split.specs.Steps.{thereSum, Movable, Ready}
+use Rattle.split.specs.Steps.{thereSum}
+use Rattle.split.specs.Columns.{Movable, Ready}
 use Rattle.split.specs.Shares.{homeRows, homeTicks}
 
 both-movable : (w n f : ℕ) (home : Bool) → 0 < n → (home ≡ true → (n ≤ f) × (n ≤ w)) → bothRow home n f .movable ≡ true

@@ -1,4 +1,5 @@
 pub mod BothSides
+pub mod Examples
 pub mod Signed
 pub mod Number
 pub mod NextRow

@@ -6,9 +6,10 @@ use mathlib.Core.List.{List, [], _∷_}
 use Prim.Native.Nat.{ℕ, zero, suc, _+_, _*_, _≤_, _<_}
 use native.Mathlib.Nat.{mul-le-mul-left, lt-of-mul-lt-mul-left, le-of-suc-le-suc, not-suc-le-zero}
 use native.Mathlib.Omega.{arith}
-use lib.ListN.{length, getD}
 use borrow.Author.Tests.{ltb-true, ltb-false}
-use Rattle.split.specs.Steps.{ahead, better, nextFrom, nextOf, noRow, Ready}
+use lib.ListN.{length, getD}
+use Rattle.split.specs.Steps.{ahead, better, nextFrom, nextOf}
+use Rattle.split.specs.Columns.{noRow, Ready}
 use Rattle.split.specs.Rows.{Row, Next, Nobody, At}
 
 -- The ratio of s is at most that of r, or below it.

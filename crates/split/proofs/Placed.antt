@@ -6,10 +6,11 @@ use mathlib.Core.Bool.{Bool, true, false, cond, _&&_}
 use Prim.Native.Nat.{ℕ, _+_, _-_, _*_, _≤_, _<_, min}
 use native.Mathlib.Nat.{mul-le-mul-left}
 use native.Mathlib.Omega.{arith}
-use lib.Dec.{leb, ltb}
 use borrow.Author.Tests.{leb-true, leb-false, ltb-true, ltb-false, lt-ltb, le-ltb}
+use lib.Dec.{leb, ltb}
 use Rattle.split.specs.Home.{ceil, keepOf, giveOf}
-use Rattle.split.specs.Steps.{put, movedOf, Movable}
+use Rattle.split.specs.Steps.{put, movedOf}
+use Rattle.split.specs.Columns.{Movable}
 use Rattle.split.specs.Closed.{placedOf}
 use Rattle.split.specs.Rows.{Row}
 use Rattle.split.proofs.Number.{ceil-below, ceil-least, tight-fits}

@@ -7,8 +7,8 @@ use mathlib.Core.List.{List, [], _∷_}
 use Prim.Native.Nat.{ℕ, zero, suc, _+_, _*_, _-_, _≤_, _<_}
 use native.Mathlib.Nat.{mul-le-mul, mul-le-mul-left}
 use native.Mathlib.Omega.{arith}
-use lib.Dec.{leb, ltb}
 use borrow.Author.Tests.{leb-true, leb-false, ltb-true, ltb-false, le-leb, lt-ltb}
+use lib.Dec.{leb, ltb}
 use Rattle.rows.specs.Lists.{All}
 use Rattle.model.specs.declared.Kind.{Kind}
 use Rattle.model.specs.declared.Kind.the-variants.{First, Second}
@@ -16,7 +16,8 @@ use Rattle.model.specs.declared.Job.{Job}
 use Rattle.model.specs.declared.Job.the-variants.{Both, OnlyFirst, OnlySecond}
 use Rattle.legal.specs.Lawful.{LegalJob}
 use Rattle.split.specs.Home.{ceil, bothRow, onlyRow, atHome, keepOf, giveOf}
-use Rattle.split.specs.Steps.{Movable, put}
+use Rattle.split.specs.Steps.{put}
+use Rattle.split.specs.Columns.{Movable}
 use Rattle.split.specs.Shares.{homeRows}
 use Rattle.split.specs.Rows.{Row}
 use Rattle.split.proofs.Number.{ceil-most, ceil-below, ceil-least, ratio-trans, kept, far, keep-below, far-whole, near-fits, tight-fits, part-whole}

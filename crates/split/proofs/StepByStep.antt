@@ -6,12 +6,13 @@ use mathlib.Core.List.{List, [], _∷_}
 use Prim.Native.Nat.{ℕ, zero, suc, _+_, _-_, _≤_, _<_}
 use native.Mathlib.Decide.{ℕ-discrete}
 use native.Mathlib.Omega.{arith}
-use lib.Dec.{leb}
 use borrow.Author.Tests.{le-leb, lt-leb}
+use lib.Dec.{leb}
 use lib.ListN.{length, getD, set, length-set}
 use lib.Seq.{getD-set-same, getD-set-other}
 use Rattle.split.specs.Home.{keepOf}
-use Rattle.split.specs.Steps.{hereSum, sumMost, nextOf, noRow, movedOf, stepOf, stepsOf, Movable, Ready, Asks}
+use Rattle.split.specs.Steps.{hereSum, nextOf, movedOf, stepOf, stepsOf}
+use Rattle.split.specs.Columns.{sumMost, noRow, Movable, Ready, Asks}
 use Rattle.split.specs.Rows.{Row, Nobody, At}
 use Rattle.split.proofs.NextRow.{Leads, next-law}
 

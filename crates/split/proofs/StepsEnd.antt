@@ -6,17 +6,18 @@ use mathlib.Core.Bool.{Bool, true, false, false≢true, cond}
 use mathlib.Core.List.{List}
 use Prim.Native.Nat.{ℕ, zero, suc, _+_, _*_, _-_, _≤_, _<_}
 use native.Mathlib.Omega.{arith}
+use borrow.Author.Tests.{leb-true, leb-false}
 use lib.Dec.{leb}
 use lib.ListN.{length, getD, set, length-set}
-use borrow.Author.Tests.{leb-true, leb-false}
-use Rattle.model.specs.Empty.{noJob}
 use Rattle.rows.specs.Lists.{sumOf}
+use Rattle.model.specs.Empty.{noJob}
 use Rattle.model.specs.Movers.{unevens}
 use Rattle.model.specs.Split.{AllDone}
 use Rattle.model.specs.declared.Kind.{Kind}
 use Rattle.model.specs.declared.Job.{Job}
 use Rattle.split.specs.Home.{ceil, keepOf, giveOf}
-use Rattle.split.specs.Steps.{hereSum, thereSum, nextOf, put, movedOf, stepOf, stepsOf, noRow}
+use Rattle.split.specs.Steps.{hereSum, thereSum, nextOf, put, movedOf, stepOf, stepsOf}
+use Rattle.split.specs.Columns.{noRow}
 use Rattle.split.specs.Shares.{sharesSeen}
 use Rattle.split.specs.Rows.{Row, Next, Nobody, At}
 use Rattle.split.proofs.NextRow.{Leads, IsNext, next-law}

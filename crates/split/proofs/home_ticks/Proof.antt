@@ -5,7 +5,7 @@ use native.Mathlib.Omega.{arith}
 use borrow.Author.Needs.{needs}
 use Rattle.model.specs.Columns.{jobsIn}
 use Rattle.model.specs.declared.Kind.the-variants.{First}
-use Rattle.split.specs.Steps.{Summed}
+use Rattle.split.specs.Columns.{Summed}
 use Rattle.split.specs.Shares.{homeRows}
 use Rattle.split.proofs.Columns.{sums-more}
 use Rattle.split.proofs.home_ticks.Statement.{statement}

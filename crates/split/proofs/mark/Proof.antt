@@ -5,9 +5,9 @@ use Prim.Native.Nat.{_-_, _≤_}
 use native.Mathlib.Omega.{arith}
 use borrow.Author.Needs.{needs}
 use lib.ListN.{length, drop, length-set}
-use Rattle.split.specs.Columns.{markOf, marksIn}
 use Rattle.rows.specs.Upto.{at}
 use Rattle.rows.proofs.Upto.{fill}
+use Rattle.split.specs.Columns.{markOf, marksIn}
 use Rattle.split.proofs.mark.Statement.{statement}
 use Rattle.split.proofs.mark.Tie as tie
 

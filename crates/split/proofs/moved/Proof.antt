@@ -3,10 +3,10 @@ use Prim.Native.Nat.{_-_, _*_, _≤_}
 use native.Mathlib.Nat.{mul-le-mul-left}
 use native.Mathlib.Omega.{arith}
 use borrow.Author.Tests.{le-leb, lt-leb}
+use borrow.Author.Needs.{needs}
 use Rattle.model.proofs.Product.{product}
 use Rattle.split.specs.Steps.{movedOf}
 use Rattle.split.proofs.Number.{ceil-below}
-use borrow.Author.Needs.{needs}
 use Rattle.split.proofs.moved.Statement.{statement}
 use Rattle.split.proofs.moved.Tie as tie
 

@@ -4,9 +4,9 @@ use mathlib.Core.List.{List}
 use Prim.Native.Nat.{ℕ, _-_, _≤_}
 use native.Mathlib.Omega.{arith}
 use borrow.Author.Needs.{needs}
+use Rattle.rows.specs.Upto.{at}
 use Rattle.split.specs.Steps.{nextFrom, nextOf}
 use Rattle.split.specs.Columns.{rowsIn, Small, bestOf, betterOf}
-use Rattle.rows.specs.Upto.{at}
 use Rattle.split.specs.declared.Best.{Best}
 use Rattle.split.proofs.Columns.{best-more}
 use Rattle.split.proofs.next_of.Statement.{statement}

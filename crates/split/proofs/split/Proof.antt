@@ -2,18 +2,18 @@
 use mathlib.Core.Path.{_≡_, sym}
 use mathlib.Core.List.{List}
 use Prim.Native.Nat.{ℕ}
+use borrow.Author.Needs.{needs}
 use Rattle.model.specs.Columns.{jobsIn}
 use Rattle.model.specs.Refusal.{given}
 use Rattle.model.specs.declared.Board.{Board}
 use Rattle.model.specs.declared.Job.{Job}
+use Rattle.legal.specs.Legal.{legalOf}
+use Rattle.legal.proofs.Lawful.{legal-lawful}
 use Rattle.split.specs.Shares.{sharesOf, Answers}
 use Rattle.split.specs.Promise.{Promised}
 use Rattle.split.specs.declared.Shared.{Shared}
-use Rattle.legal.specs.Legal.{legalOf}
-use Rattle.legal.proofs.Lawful.{legal-lawful}
 use Rattle.split.proofs.Answered.{answers-none}
 use Rattle.split.proofs.Demands.{demands, exactly}
-use borrow.Author.Needs.{needs}
 use Rattle.split.proofs.split.Statement.{statement}
 use Rattle.split.proofs.split.Tie as tie
 

@@ -1,8 +1,8 @@
 -- `split::split_legal` meets its contract: which kinds are over at home decides, as in the definition. Assumes nothing.
 use native.Mathlib.Omega.{arith}
 use borrow.Author.Needs.{needs}
-use Rattle.model.specs.Columns.{jobsIn}
 use Rattle.rows.proofs.Lists.{all-map}
+use Rattle.model.specs.Columns.{jobsIn}
 use Rattle.split.proofs.Answers.{asks-first, asks-second, both-over, first-over, second-over, none-over}
 use Rattle.split.proofs.Homes.{legal-longer}
 use Rattle.split.proofs.split_legal.Statement.{statement}

@@ -3,10 +3,9 @@
 use mathlib.Core.Path.{_≡_, sym, _∙_}
 use mathlib.Core.List.{List}
 use Prim.Native.Nat.{ℕ, _≤_}
-use native.Mathlib.Nat.{mul-le-mul}
 use native.Mathlib.Omega.{arith}
+use borrow.Author.Needs.{needs}
 use lib.ListN.{length, take}
-use Rattle.model.proofs.RoomLaws.{room-limit}
 use Rattle.model.specs.Board.{roomOf}
 use Rattle.model.specs.Columns.{jobsIn}
 use Rattle.model.specs.Limits.{jobsMost}
@@ -15,21 +14,21 @@ use Rattle.model.specs.declared.Kind.{Kind}
 use Rattle.model.specs.declared.Kind.the-variants.{First, Second}
 use Rattle.model.specs.declared.Board.{Board}
 use Rattle.model.specs.declared.Job.{Job}
+use Rattle.model.proofs.RoomLaws.{room-limit}
+use Rattle.model.proofs.costs.Reads as costs-reads
+use Rattle.model.proofs.room.Reads as room-reads
 use Rattle.legal.specs.Legal.{legalOf}
 use Rattle.legal.specs.Lawful.{Lawful}
 use Rattle.legal.proofs.Lawful.{legal-lawful}
+use Rattle.legal.proofs.check.Reads as check-reads
 use Rattle.split.specs.Shares.{balanceOf}
 use Rattle.split.proofs.Homes.{home-there}
 use Rattle.split.proofs.Seen.{balance-costs}
 use Rattle.split.proofs.Signed.{kept-sub}
-use borrow.Author.Needs.{needs}
 use Rattle.split.proofs.starting_balance.Statement.{statement}
 use Rattle.split.proofs.starting_balance.Tie as tie
 use Rattle.split.proofs.starting_balance.Reads as reads
 use Rattle.split.proofs.starting_balance.Lts as lts
-use Rattle.legal.proofs.check.Reads as check-reads
-use Rattle.model.proofs.costs.Reads as costs-reads
-use Rattle.model.proofs.room.Reads as room-reads
 use Rattle.split.proofs.home_ticks.Reads as home-ticks-reads
 use Rattle.split.proofs.less.Reads as less-reads
 
