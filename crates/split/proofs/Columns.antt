@@ -21,7 +21,7 @@ use Rattle.split.specs.Columns.{rowAt, rowsIn, bare, bestOf, betterOf, F
 use Rattle.split.specs.Shares.{homeRows}
 use Rattle.split.specs.Rows.{Row, Next, Nobody, At}
 use Rattle.split.specs.declared.Ends.{Ends}
-use Rattle.split.specs.declared.Best.{Best}
+use Rattle.split.specs.declared.steps.Best.{Best}
 use Rattle.split.specs.declared.Sums.{Sums}
 use Rattle.split.proofs.NextRow.{Leads, IsNext, next-law}
 use Rattle.split.proofs.Placed.{moved-fits}

@@ -23,9 +23,9 @@ use Rattle.model.proofs.Determined.{Once, once, said-once, refusal-back, answer
 use Rattle.split.specs.Promise.{Promised}
 use Rattle.split.specs.Shares.{sharesOf, balanceOf, saysOutcome, rowsOf, saysBalanced}
 use Rattle.split.specs.Columns.{none}
-use Rattle.split.specs.declared.Balance.{Balance}
-use Rattle.split.specs.declared.Balanced.{Balanced}
-use Rattle.split.specs.declared.Balanced.the-variants.{Given, Refused as NoBalance}
+use Rattle.split.specs.declared.balance.Balance.{Balance}
+use Rattle.split.specs.declared.balance.Balanced.{Balanced}
+use Rattle.split.specs.declared.balance.Balanced.the-variants.{Given, Refused as NoBalance}
 use Rattle.split.specs.declared.Outcome.{Outcome}
 use Rattle.split.specs.declared.Outcome.the-variants.{Shares, Refused}
 use Rattle.split.specs.declared.Shared.{Shared}

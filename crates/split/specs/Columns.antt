@@ -44,7 +44,7 @@ use Rattle.split.specs.Home.{bothRow, atHome, keepOf, giveOf}
 use Rattle.split.specs.Rows.{Row, Next, Nobody, At}
 use Rattle.split.specs.Shares.{homeRows, settled}
 use Rattle.split.specs.Steps.{hereSum, thereSum, nextOf, movedOf, stepsOf}
-use Rattle.split.specs.declared.Best.{Best}
+use Rattle.split.specs.declared.steps.Best.{Best}
 use Rattle.split.specs.declared.Ends.{Ends}
 use Rattle.split.specs.declared.Outcome.the-variants.{Refused}
 use Rattle.split.specs.declared.Shared.{Shared}

@@ -40,9 +40,9 @@ use Rattle.split.specs.Rows.{Row}
 use Rattle.split.specs.declared.Outcome.{Outcome}
 use Rattle.split.specs.declared.Outcome.the-variants.{Shares, Refused}
 use Rattle.split.specs.declared.Shared.{Shared}
-use Rattle.split.specs.declared.Balance.{Balance}
-use Rattle.split.specs.declared.Balanced.{Balanced}
-use Rattle.split.specs.declared.Balanced.the-variants.{Given, Refused as NoBalance}
+use Rattle.split.specs.declared.balance.Balance.{Balance}
+use Rattle.split.specs.declared.balance.Balanced.{Balanced}
+use Rattle.split.specs.declared.balance.Balanced.the-variants.{Given, Refused as NoBalance}
 
 abbrev pub shareOf : Kind → Row → Ticks
 shareOf k r = share (on k (r .here) (r .there)) (on k (r .there) (r .here))
