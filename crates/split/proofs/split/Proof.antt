@@ -12,10 +12,10 @@ use Rattle.legal.proofs.Lawful.{legal-lawful}
 use Rattle.split.specs.Shares.{sharesOf, Answers}
 use Rattle.split.specs.Promise.{Promised}
 use Rattle.split.specs.declared.Shared.{Shared}
-use Rattle.split.proofs.Answered.{answers-none}
 use Rattle.split.proofs.Demands.{demands, exactly}
 use Rattle.split.proofs.split.Statement.{statement}
 use Rattle.split.proofs.split.Tie as tie
+use Rattle.split.proofs.Answers.{answers-none}
 
 promised : (board : Board) (n : ℕ) (js : List Job) (r : Shared) → Answers (sharesOf board n js) r → Promised board n js r
 promised board n js r answers =

@@ -3,10 +3,10 @@ use native.Mathlib.Omega.{arith}
 use borrow.Author.Needs.{needs}
 use Rattle.rows.proofs.Lists.{all-map}
 use Rattle.model.specs.Columns.{jobsIn}
-use Rattle.split.proofs.Answers.{asks-first, asks-second, both-over, first-over, second-over, none-over}
-use Rattle.split.proofs.Homes.{legal-longer}
+use Rattle.split.proofs.home.Homes.{legal-longer}
 use Rattle.split.proofs.split_legal.Statement.{statement}
 use Rattle.split.proofs.split_legal.Tie as tie
+use Rattle.split.proofs.ByOver.{asks-first, asks-second, both-over, first-over, second-over, none-over}
 
 room-requires : tie.Need-room-requires
 room-requires c κs = search needs

@@ -3,7 +3,7 @@ use native.Mathlib.Omega.{arith}
 use borrow.Author.Needs.{needs}
 use mir.Syntax.{w64}
 use mir.Facts.{toZ-pos, toZ-ofZ}
-use Rattle.split.proofs.Signed.{fits-sub}
+use Rattle.split.proofs.balance.Signed.{fits-sub}
 use Rattle.split.proofs.balance.less.Statement.{statement}
 use Rattle.split.proofs.balance.less.Tie as tie
 

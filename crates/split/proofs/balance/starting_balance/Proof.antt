@@ -22,9 +22,9 @@ use Rattle.legal.specs.Lawful.{Lawful}
 use Rattle.legal.proofs.Lawful.{legal-lawful}
 use Rattle.legal.proofs.check.Reads as check-reads
 use Rattle.split.specs.Shares.{balanceOf}
-use Rattle.split.proofs.Homes.{home-there}
+use Rattle.split.proofs.home.Homes.{home-there}
 use Rattle.split.proofs.Seen.{balance-costs}
-use Rattle.split.proofs.Signed.{kept-sub}
+use Rattle.split.proofs.balance.Signed.{kept-sub}
 use Rattle.split.proofs.balance.starting_balance.Statement.{statement}
 use Rattle.split.proofs.balance.starting_balance.Tie as tie
 use Rattle.split.proofs.balance.starting_balance.Reads as reads

@@ -6,10 +6,10 @@ use borrow.Author.Needs.{needs}
 use lib.ListN.{length, length-set}
 use Rattle.model.specs.Limits.{windowMost}
 use Rattle.split.specs.Columns.{GoneHome}
-use Rattle.split.proofs.Columns.{home-more}
-use Rattle.split.proofs.Homes.{homes-fit}
+use Rattle.split.proofs.home.Homes.{homes-fit}
 use Rattle.split.proofs.home.go_home.Statement.{statement}
 use Rattle.split.proofs.home.go_home.Tie as tie
+use Rattle.split.proofs.home.GoingHome.{home-more}
 
 abbrev Inv-loop : tie.InvT-loop
 Inv-loop c1 c2 n s1₀ s2₀ here₀ there₀ i₀ s1 s2 here there i =

@@ -7,9 +7,9 @@ use Rattle.model.specs.Columns.{jobsIn}
 use Rattle.model.specs.declared.Kind.the-variants.{First}
 use Rattle.split.specs.Columns.{Summed}
 use Rattle.split.specs.Shares.{homeRows}
-use Rattle.split.proofs.Columns.{sums-more}
 use Rattle.split.proofs.home.home_ticks.Statement.{statement}
 use Rattle.split.proofs.home.home_ticks.Tie as tie
+use Rattle.split.proofs.home.GoingHome.{sums-more}
 
 abbrev Inv-loop : tie.InvT-loop
 Inv-loop c1 c2 n here₀ there₀ i₀ here there i =

@@ -5,9 +5,9 @@ use native.Mathlib.Omega.{arith}
 use borrow.Author.Needs.{needs}
 use Rattle.model.specs.Limits.{windowMost}
 use Rattle.split.specs.declared.Ends.{Ends}
-use Rattle.split.proofs.Placed.{moved-fits}
 use Rattle.split.proofs.steps.advance.Statement.{statement}
 use Rattle.split.proofs.steps.advance.Tie as tie
+use Rattle.split.proofs.steps.OneStep.{moved-fits}
 
 mul-cost : tie.Need-mul-cost
 mul-cost c = search needs

@@ -1,17 +1,16 @@
 -- `split::steps::better_of` meets its contract: the products of numbers of 32 bits fit. Assumes nothing.
-use native.Mathlib.Omega.{arith}
 use borrow.Author.Needs.{needs}
 use borrow.Author.Tests.{lt-ltb, le-ltb}
-use Rattle.model.proofs.Product.{product}
+use Rattle.model.proofs.Product.{product-fits}
 use Rattle.split.specs.Columns.{betterOf}
 use Rattle.split.proofs.steps.better_of.Statement.{statement}
 use Rattle.split.proofs.steps.better_of.Tie as tie
 
 mul-if1 : tie.Need-mul-if1
-mul-if1 c = omega (arith, product {a = c .before .args .found .near} {b = c .before .args .far} (omega arith) (search needs))
+mul-if1 c = product-fits (search needs) (search needs)
 
 mul-if1-2 : tie.Need-mul-if1-2
-mul-if1-2 c = omega (arith, product {a = c .before .before .args .near} {b = c .before .before .args .found .far} (search needs) (omega arith))
+mul-if1-2 c = product-fits (search needs) (search needs)
 
 returns : tie.Need-returns
 unfolding betterOf

@@ -1,11 +1,11 @@
--- `split::steps::far_end` meets its contract: the quotient that is rounded up is at most the window. Assumes nothing.
+-- `split::steps::far_end` meets its contract: the quotient that is rounded up is at most the near cost, and so at most the window. Assumes nothing.
 use Prim.Native.Nat.{_-_}
 use native.Mathlib.Omega.{arith}
 use borrow.Author.Tests.{le-leb, lt-leb}
 use borrow.Author.Needs.{needs}
-use Rattle.model.proofs.Product.{product}
+use Rattle.model.proofs.Product.{product, product-fits}
 use Rattle.split.specs.Home.{keepOf, giveOf}
-use Rattle.split.proofs.Number.{keep-below}
+use Rattle.split.proofs.steps.Number.{keep-most}
 use Rattle.split.proofs.steps.far_end.Statement.{statement}
 use Rattle.split.proofs.steps.far_end.Tie as tie
 
@@ -26,7 +26,7 @@ cast-keep : tie.Need-cast-keep
 cast-keep c = search needs
 
 mul-keep : tie.Need-mul-keep
-mul-keep c = omega (arith, product {a = c .before .args .near} {b = c .before .args .far - c .before .args .w} (search needs) (omega arith))
+mul-keep c = product-fits (search needs) (omega arith)
 
 sub-keep-2 : tie.Need-sub-keep-2
 sub-keep-2 c = search needs
@@ -38,10 +38,10 @@ div-keep : tie.Need-div-keep
 div-keep c = search needs
 
 cast-keep-2 : tie.Need-cast-keep-2
-cast-keep-2 c = omega (arith, keep-below (c .before .args .near) (c .before .args .far) (c .before .args .w) (search needs) (search needs))
+cast-keep-2 c = omega (arith, keep-most (c .before .args .near) (c .before .args .far) (c .before .args .w) (search needs) (search needs))
 
 sub-t7 : tie.Need-sub-t7
-sub-t7 c = keep-below (c .before .args .near) (c .before .args .far) (c .before .args .w) (search needs) (search needs)
+sub-t7 c = omega (arith, keep-most (c .before .args .near) (c .before .args .far) (c .before .args .w) (search needs) (search needs))
 
 returns-2 : tie.Need-returns-2
 unfolding keepOf giveOf

@@ -4,11 +4,11 @@ use native.Mathlib.Nat.{mul-le-mul-left}
 use native.Mathlib.Omega.{arith}
 use borrow.Author.Tests.{le-leb, lt-leb}
 use borrow.Author.Needs.{needs}
-use Rattle.model.proofs.Product.{product}
+use Rattle.model.proofs.Product.{product, product-fits}
 use Rattle.split.specs.Steps.{movedOf}
-use Rattle.split.proofs.Number.{ceil-below}
 use Rattle.split.proofs.steps.moved.Statement.{statement}
 use Rattle.split.proofs.steps.moved.Tie as tie
+use Rattle.split.proofs.steps.Number.{ceil-below}
 
 far-end-requires : tie.Need-far-end-requires
 far-end-requires c κs = search needs
@@ -35,9 +35,7 @@ sub-there : tie.Need-sub-there
 sub-there c = search needs
 
 mul-there : tie.Need-mul-there
-mul-there c =
-    let a = c .before .before .before .args in
-    omega (arith, product {a = a .far} {b = a .near - (a .room - (a .all - a .near))} (search needs) (omega arith))
+mul-there c = product-fits (search needs) (omega arith)
 
 sub-there-2 : tie.Need-sub-there-2
 sub-there-2 c = search needs

@@ -8,9 +8,9 @@ use Rattle.rows.specs.Upto.{at}
 use Rattle.split.specs.Steps.{nextFrom, nextOf}
 use Rattle.split.specs.Columns.{rowsIn, Small, bestOf, betterOf}
 use Rattle.split.specs.declared.steps.Best.{Best}
-use Rattle.split.proofs.Columns.{best-more}
 use Rattle.split.proofs.steps.next_of.Statement.{statement}
 use Rattle.split.proofs.steps.next_of.Tie as tie
+use Rattle.split.proofs.steps.BestRow.{best-more}
 
 abbrev Inv-loop : tie.InvT-loop
 Inv-loop near far n found₀ i₀ found i =

@@ -1,8 +1,8 @@
 -- `split::steps::relieve` meets its contract: the near costs that are marked are those of the rows that the contract names. Assumes nothing.
 use borrow.Author.Needs.{needs}
-use Rattle.split.proofs.Answers.{marked-rows, relieves}
 use Rattle.split.proofs.steps.relieve.Statement.{statement}
 use Rattle.split.proofs.steps.relieve.Tie as tie
+use Rattle.split.proofs.steps.Relieving.{marked-rows, relieves}
 
 mark-requires : tie.Need-mark-requires
 mark-requires c κs = search needs

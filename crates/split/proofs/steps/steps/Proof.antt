@@ -4,9 +4,9 @@ use mathlib.Core.Path.{refl}
 use Prim.Native.Nat.{_-_}
 use native.Mathlib.Omega.{arith}
 use borrow.Author.Needs.{needs}
-use Rattle.split.proofs.Columns.{Runs, ends-last, ends-within, ends-nobody, found-within, found-asks, goes-on}
 use Rattle.split.proofs.steps.steps.Statement.{statement}
 use Rattle.split.proofs.steps.steps.Tie as tie
+use Rattle.split.proofs.steps.Runs.{Runs, ends-last, ends-within, ends-nobody, found-within, found-asks, goes-on}
 
 abbrev Inv-loop : tie.InvT-loop
 Inv-loop w room near₀ far n here₀ there₀ sums₀ left₀ near here there sums left =

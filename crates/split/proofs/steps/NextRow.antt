@@ -1,7 +1,7 @@
 -- The row to be moved next: it is a movable row of the list, no movable row has a greater near/far, and none of lower number an equal one.
 -- The scan carries the row found so far, so the law says what a scan makes of it (`Scanned`). Assumes nothing.
 use mathlib.Core.Path.{_≡_, refl, sym, _∙_, ap}
-use mathlib.Core.Bool.{Bool, true, false, cond}
+use mathlib.Core.Bool.{Bool, true, false, false≢true, cond}
 use mathlib.Core.List.{List, [], _∷_}
 use Prim.Native.Nat.{ℕ, zero, suc, _+_, _*_, _≤_, _<_}
 use native.Mathlib.Nat.{mul-le-mul-left, lt-of-mul-lt-mul-left, le-of-suc-le-suc, not-suc-le-zero}
@@ -60,68 +60,65 @@ yields-on Nobody h r pos y b = tt
 yields-on (At k s) h r pos y b = upto-below s h r pos (omega arith) b
 
 -- The head is passed over ..
-pass : (r : Row) (rs : List Row) (i : ℕ) (x : Next) {y : Next} → (r .movable ≡ true → Passes x r × (0 < r .far))
+scan-passes : (r : Row) (rs : List Row) (i : ℕ) (x : Next) {y : Next} → (r .movable ≡ true → Passes x r × (0 < r .far))
     → Scanned rs (i + 1) x y → Scanned (r ∷ rs) i x y
-pass r rs i x h (same all) = same go
+scan-passes r rs i x h (same all) = same go
   where
     go : Movables (Passes x) (r ∷ rs)
     go zero l m = h m .0
     go (suc k) l m = all k (le-of-suc-le-suc l) m
-pass r rs i x h (new k j s e l is mov led y) = new k (suc j) s (omega arith) (omega arith) is mov go y
+scan-passes r rs i x h (new k j s e l is mov led y) = new k (suc j) s (omega arith) (omega arith) is mov go y
   where
     go : Led (r ∷ rs) (suc j) s
     go zero l m = let b = yields-below x r s (h m .1) (h m .0) y in (λ _. b, omega arith)
     go (suc n) l m = let b = led n (le-of-suc-le-suc l) m in (λ less. b .0 (le-of-suc-le-suc less), b .1)
 
 -- .. or takes the place.
-takes : (r : Row) (rs : List Row) (i : ℕ) (x : Next) {y : Next} → r .movable ≡ true → Positive x → Yields x r
+scan-takes : (r : Row) (rs : List Row) (i : ℕ) (x : Next) {y : Next} → r .movable ≡ true → Positive x → Yields x r
     → Scanned rs (i + 1) (At i r) y → Scanned (r ∷ rs) i x y
-takes r rs i x mov pos yields (same all) = new i 0 r (omega arith) (omega arith) refl mov go yields
+scan-takes r rs i x mov pos yields (same all) = new i 0 r (omega arith) (omega arith) refl mov go yields
   where
     go : Led (r ∷ rs) 0 r
     go zero l m = (λ less. absurd (not-suc-le-zero less), omega arith)
     go (suc n) l m = (λ less. absurd (not-suc-le-zero less), all n (le-of-suc-le-suc l) m)
-takes r rs i x mov pos yields (new k j s e l is smov led y) =
+scan-takes r rs i x mov pos yields (new k j s e l is smov led y) =
     new k (suc j) s (omega arith) (omega arith) is smov go (yields-on x r s pos yields y)
   where
     go : Led (r ∷ rs) (suc j) s
     go zero l m = (λ _. y, omega arith)
     go (suc n) l m = let b = led n (le-of-suc-le-suc l) m in (λ less. b .0 (le-of-suc-le-suc less), b .1)
 
-never : {A : Type 0} → false ≡ true → A
-never e = let z : _≡_ {A = ℕ} 0 1 = cc in absurd (omega arith)
-
 abbrev Law : List Row → ℕ → Type 0
 Law rs i = (x : Next) → Positive x → Scanned rs i x (nextFrom x i rs)
 
-pub still : (x : Next) (i : ℕ) (r : Row) → r .movable ≡ false → better x i r ≡ x
+better-still : (x : Next) (i : ℕ) (r : Row) → r .movable ≡ false → better x i r ≡ x
 unfolding better
-still Nobody i r e = ap (λ (t : Bool). cond t (At i r) Nobody) e
-still (At k s) i r e = ap (λ (t : Bool). cond t (cond (ahead r s) (At i r) (At k s)) (At k s)) e
+better-still Nobody i r e = ap (λ (t : Bool). cond t (At i r) Nobody) e
+better-still (At k s) i r e = ap (λ (t : Bool). cond t (cond (ahead r s) (At i r) (At k s)) (At k s)) e
 
-begins : (i : ℕ) (r : Row) → r .movable ≡ true → better Nobody i r ≡ At i r
+better-first : (i : ℕ) (r : Row) → r .movable ≡ true → better Nobody i r ≡ At i r
 unfolding better
-begins i r e = ap (λ (t : Bool). cond t (At i r) Nobody) e
+better-first i r e = ap (λ (t : Bool). cond t (At i r) Nobody) e
 
-goes-on : (k : ℕ) (s : Row) (i : ℕ) (r : Row) → r .movable ≡ true → better (At k s) i r ≡ cond (ahead r s) (At i r) (At k s)
+better-next : (k : ℕ) (s : Row) (i : ℕ) (r : Row) → r .movable ≡ true → better (At k s) i r ≡ cond (ahead r s) (At i r) (At k s)
 unfolding better
-goes-on k s i r e = ap (λ (t : Bool). cond t (cond (ahead r s) (At i r) (At k s)) (At k s)) e
+better-next k s i r e = ap (λ (t : Bool). cond t (cond (ahead r s) (At i r) (At k s)) (At k s)) e
 
 module _ (r : Row) (rs : List Row) (i : ℕ) (law : Law rs (i + 1)) (far : r .movable ≡ true → 0 < r .far) where
-  head : (x : Next) → Positive x → (t : Bool) → r .movable ≡ t → Scanned (r ∷ rs) i x (nextFrom (better x i r) (i + 1) rs)
-  head x pos false e = rw (still x i r e) (pass r rs i x (λ m. never (sym e ∙ m)) (law x pos))
-  head Nobody pos true e = rw (begins i r e) (takes r rs i Nobody e tt tt (law (At i r) (far e)))
-  head (At k s) pos true e = rw (goes-on k s i r e) (go (ahead r s) refl)
+  scan-head : (x : Next) → Positive x → (t : Bool) → r .movable ≡ t → Scanned (r ∷ rs) i x (nextFrom (better x i r) (i + 1) rs)
+  scan-head x pos false e = rw (better-still x i r e) (scan-passes r rs i x (λ m. absurd (false≢true (sym e ∙ m))) (law x pos))
+  scan-head Nobody pos true e = rw (better-first i r e) (scan-takes r rs i Nobody e tt tt (law (At i r) (far e)))
+  scan-head (At k s) pos true e = rw (better-next k s i r e) (go (ahead r s) refl)
     where
       go : (t : Bool) → ahead r s ≡ t → Scanned (r ∷ rs) i (At k s) (nextFrom (cond t (At i r) (At k s)) (i + 1) rs)
-      go true a = takes r rs i (At k s) e pos (ltb-true _ _ a) (law (At i r) (far e))
-      go false a = pass r rs i (At k s) (λ m. (ltb-false _ _ a, far e)) (law (At k s) pos)
+      go true a = scan-takes r rs i (At k s) e pos (ltb-true _ _ a) (law (At i r) (far e))
+      go false a = scan-passes r rs i (At k s) (λ m. (ltb-false _ _ a, far e)) (law (At k s) pos)
 
 scan-law : (rs : List Row) (i : ℕ) → Movables (λ (r : Row). 0 < r .far) rs → Law rs i
 unfolding nextFrom
 scan-law [] i far x pos = same (λ m l e. absurd (not-suc-le-zero l))
 scan-law (r ∷ rs) i far x pos =
-    head r rs i (scan-law rs (i + 1) (λ m l e. far (suc m) (omega arith) e)) (λ e. far 0 (omega arith) e) x pos (r .movable) refl
+    scan-head r rs i (scan-law rs (i + 1) (λ m l e. far (suc m) (omega arith) e)) (λ e. far 0 (omega arith) e) x pos (r .movable) refl
 
 -- What comes next.
 pub record Leads (rs : List Row) (i : ℕ) (r : Row) : Type 0 where

@@ -18,9 +18,11 @@ use Rattle.split.specs.Steps.{hereSum, ahead, nextOf, movedOf, stepOf, s
 use Rattle.split.specs.Columns.{noRow, Movable, Ready}
 use Rattle.split.specs.Closed.{before, atTurn, turnSum, placedOf, closedOf}
 use Rattle.split.specs.Rows.{Row, Next, Nobody, At}
-use Rattle.split.proofs.NextRow.{Leads, IsNext, next-law}
-use Rattle.split.proofs.Totals.{sum-set, set-each, waiting, waiting-most, waiting-none, none-waiting}
-use Rattle.split.proofs.Placed.{placed-still, placed-over, placed-within, keep-near, Goes, end, part, moved-goes}
+use Rattle.split.proofs.steps.NextRow.{Leads, IsNext, next-law}
+use Rattle.split.proofs.ClosedForm.Placed.{placed-still, placed-over, placed-within}
+use Rattle.split.proofs.steps.StepByStep.{ready-set}
+use Rattle.split.proofs.steps.OneStep.{moved-still, keep-near, Goes, end, part, moved-goes}
+use Rattle.split.proofs.steps.RowSums.{sum-set, waiting, waiting-most, waiting-none, none-waiting}
 
 -- ---- whose turn comes when
 module _ (rs : List Row) (b : ℕ) (r : Row) (leads : Leads rs b r) (k : ℕ) (within : k < length rs)
@@ -106,15 +108,6 @@ closed-same w room rs h =
     ext-getD noRow _ _ (simp each-length) (λ k l. let old : k < length rs = rw each-length at l in closed-at w room rs k old ∙ h k old)
 
 -- ---- a step
-goes-still : {w room all : ℕ} {r v : Row} → Goes w room all r v → v .movable ≡ false
-goes-still (end h) = refl
-goes-still (part h more e) = refl
-
-ready-set : (w : ℕ) (rs : List Row) (i : ℕ) (v : Row) → i < length rs → v .movable ≡ false → Ready w rs → Ready w (set rs i v)
-ready-set w rs i v within still ready k l =
-    set-each (λ (m : ℕ) (x : Row). x .movable ≡ true → Movable w x) rs i v within ready (λ can. absurd (false≢true (sym still ∙ can))) k
-    (simp length-set at l)
-
 module _ (w room : ℕ) (rs : List Row) (ready : Ready w rs) (b : ℕ) (r : Row) (leads : Leads rs b r) where
   -- The ticks after a step, and those at another row's turn.
   step-sum : (v : Row) → hereSum (set rs b v) + r .here ≡ hereSum rs + v .here
@@ -167,7 +160,7 @@ module _ (w room : ℕ) (rs : List Row) (ready : Ready w rs) (b : ℕ) (r : Row)
               ≡ placedOf w room (turnSum w rs k (getD rs k noRow)) (getD rs k noRow)
           go (yes e) =
               rw (e, getD-set-same rs b v noRow (leads .within), leads .is, sum-next w rs ready b r leads, placed-over w room (hereSum rs) r (leads .movable) over)
-              (placed-still w room (turnSum w (set rs b v) b v) v (goes-still step-goes))
+              (placed-still w room (turnSum w (set rs b v) b v) v (moved-still w room (hereSum rs) r))
           go (no e) = rw (getD-set-other rs b k v noRow e) (step-other step-goes k l e (getD rs k noRow .movable) refl)
 
 -- ---- the steps
@@ -183,7 +176,7 @@ turn-closed n w room rs ready enough law false t Nobody next =
     law rs ready (omega (arith, none-waiting rs next))
 turn-closed n w room rs ready enough law false t (At b r) next =
     let v : Row = movedOf w room (hereSum rs) r in
-    let still : v .movable ≡ false = goes-still (step-goes w room rs ready b r next) in
+    let still = moved-still w room (hereSum rs) r in
     law (set rs b v) (ready-set w rs b v (next .within) still ready) (omega (arith, step-waiting w room rs ready b r next v still)) ∙ step-closed w room rs ready b r next (leb-false _ _ t)
 
 steps-enough : (n w room : ℕ) (rs : List Row) → Ready w rs → waiting rs ≤ n → stepsOf n w room rs ≡ closedOf w room rs
@@ -218,7 +211,7 @@ steps-room (suc n) w room rs ready over =
     go false (At b r) next law =
         let goes = step-goes w room rs ready b r next in
         let v : Row = movedOf w room (hereSum rs) r in
-        law (set rs b v) (ready-set w rs b v (next .within) (goes-still goes) ready)
+        law (set rs b v) (ready-set w rs b v (next .within) (moved-still w room (hereSum rs) r) ready)
         (omega (arith, goes-full goes, step-sum w room rs ready b r next v))
 
 -- Where a kind that was over is within its room after the steps, it is exactly full.

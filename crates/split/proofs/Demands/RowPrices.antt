@@ -20,10 +20,11 @@ use Rattle.split.specs.Steps.{put}
 use Rattle.split.specs.Columns.{Movable}
 use Rattle.split.specs.Shares.{homeRows}
 use Rattle.split.specs.Rows.{Row}
-use Rattle.split.proofs.Number.{ceil-most, ceil-below, ceil-least, ratio-trans, kept, far, keep-below, far-whole, near-fits, tight-fits, part-whole}
-use Rattle.split.proofs.View.{View, both, only, away, see, DoneSeen}
-use Rattle.split.proofs.Price.{Worth, Each}
-use Rattle.split.proofs.Totals.{Even}
+use Rattle.split.proofs.Demands.View.{View, both, only, away, see, DoneSeen}
+use Rattle.split.proofs.Demands.Price.{Worth, Each}
+use Rattle.split.proofs.Demands.Bounds.{ratio-trans, home-bounds, far-bounds}
+use Rattle.split.proofs.Demands.Unevens.{Even}
+use Rattle.split.proofs.steps.Number.{ceil-most, ceil-below, ceil-least, keep-most, far-whole, near-fits, tight-fits, part-whole}
 
 -- A row that can be moved.
 pub record Waits (w p q : ℕ) (v : View) (r : Row) : Type 0 where
@@ -72,12 +73,12 @@ module _ (w : ℕ) where
           is = refl;
           cheap = omega arith;
         };
-        worth = λ p q dear later cheap n x y z. omega (arith, kept p q c d n x y dpos (cheap refl) (z .0));
+        worth = λ p q dear later cheap n x y z. omega (arith, home-bounds p q c d n x y dpos (cheap refl) (z .0));
       }
   both-stands c d cpos dpos false h k =
       let m = k refl in
       rests w 1 1 (both c d) (bothRow false c d) refl (omega arith) (λ a b. absurd (omega arith))
-      (λ p q dear later n x y z. omega (arith, kept q p d c n y x cpos (mul-le-mul dear (m .0)) (omega (arith, z .0))))
+      (λ p q dear later n x y z. omega (arith, home-bounds q p d c n y x cpos (mul-le-mul dear (m .0)) (omega (arith, z .0))))
 
   only-stands : (c : ℕ) → c ≤ w → Stand w 1 1 (only c) (onlyRow true c)
   only-stands c h =
@@ -121,7 +122,7 @@ far-end w c d fits = go (leb d w) refl
     go true e = gone (leb-true d w e)
     go false e =
         let wd : w < d = leb-false d w e in
-        tight stays wd (keep-below c d w fits wd)
+        tight stays wd (omega (arith, keep-most c d w fits wd))
         (ceil-least (c * (d - w)) (d - c) (omega arith))
         (omega (arith, ceil-most (c * (d - w)) (d - c)))
 
@@ -129,13 +130,13 @@ module _ (w : ℕ) (r : Row) (m : Movable w r) where
   end-stands : {l g : ℕ} → End w (r .near) (r .far) l g → Stand w (r .far) (r .near) (both (r .near) (r .far)) (put r l g)
   end-stands (gone dw) =
       rests w (r .far) (r .near) (both (r .near) (r .far)) (put r 0 (r .far)) refl (omega arith) (λ a b. absurd (omega arith))
-      (λ p q dear later n x y z. omega (arith, kept q p (r .far) (r .near) n y x (m .some) (omega arith) (omega (arith, z .0))))
+      (λ p q dear later n x y z. omega (arith, home-bounds q p (r .far) (r .near) n y x (m .some) (omega arith) (omega (arith, z .0))))
   end-stands (tight l wd lw whole up) =
       rests w (r .far) (r .near) (both (r .near) (r .far)) (put r l (w - l)) refl
       (omega (arith, far-whole (r .near) (r .far) w l (m .fits) wd lw whole)) (λ a b. omega arith)
       (λ p q dear later n x y z.
       rw (le-leb (r .near) w (m .fits), lt-ltb w (r .far) wd)
-      (omega (arith, far p q (r .near) (r .far) w l n x y (m .fits) wd lw up dear (omega arith) (z .0) (z .1))))
+      (omega (arith, far-bounds p q (r .near) (r .far) w l n x y (m .fits) wd lw up dear (omega arith) (z .0) (z .1))))
 
   pub far-stands : Stand w (r .far) (r .near) (both (r .near) (r .far)) (put r (keepOf w (r .near) (r .far)) (giveOf w (r .near) (r .far)))
   far-stands = end-stands (far-end w (r .near) (r .far) (m .fits))

@@ -1,20 +1,18 @@
--- The turns of the steps: where they end, and what one that moves a row does.
+-- The steps, one by one: where they end, and what one that moves a row does.
 -- The next row is one of the rows and can be moved (Leads), so that a step can be taken, and the row put in stays. Assumes nothing.
 use mathlib.Core.Path.{_≡_, refl, sym, _∙_}
 use mathlib.Core.Bool.{Bool, true, false, false≢true, cond}
 use mathlib.Core.List.{List, [], _∷_}
-use Prim.Native.Nat.{ℕ, zero, suc, _+_, _-_, _≤_, _<_}
-use native.Mathlib.Decide.{ℕ-discrete}
+use Prim.Native.Nat.{ℕ, zero, suc, _-_, _≤_, _<_}
 use native.Mathlib.Omega.{arith}
 use borrow.Author.Tests.{le-leb, lt-leb}
 use lib.Dec.{leb}
 use lib.ListN.{length, getD, set, length-set}
-use lib.Seq.{getD-set-same, getD-set-other}
-use Rattle.split.specs.Home.{keepOf}
 use Rattle.split.specs.Steps.{hereSum, nextOf, movedOf, stepOf, stepsOf}
 use Rattle.split.specs.Columns.{sumMost, noRow, Movable, Ready, Asks}
 use Rattle.split.specs.Rows.{Row, Nobody, At}
-use Rattle.split.proofs.NextRow.{Leads, next-law}
+use Rattle.split.proofs.steps.NextRow.{Leads, next-law}
+use Rattle.split.proofs.steps.RowSums.{set-each}
 
 pub steps-within : (n w room : ℕ) (rs : List Row) → hereSum rs ≤ room → stepsOf n w room rs ≡ rs
 unfolding stepsOf
@@ -39,26 +37,11 @@ here-among [] i = omega arith
 here-among (r ∷ rs) zero = omega arith
 here-among (r ∷ rs) (suc i) = omega (arith, here-among rs i)
 
-pub moved-still : (w room s : ℕ) (r : Row) → movedOf w room s r .movable ≡ false
-unfolding movedOf
-moved-still w room s r = either (leb room (s - r .here + keepOf w (r .near) (r .far))) _ _ refl refl
-  where
-    either : (t : Bool) (x y : Row) → x .movable ≡ false → y .movable ≡ false → cond t x y .movable ≡ false
-    either true x y p q = p
-    either false x y p q = q
-
 -- A row that cannot be moved is put in.
-ready-set : (w : ℕ) (rs : List Row) (i : ℕ) (v : Row) → v .movable ≡ false → Ready w rs → Ready w (set rs i v)
-ready-set w rs i v still ready k l m = go (ℕ-discrete k i)
-  where
-    in-old : k < length rs
-    in-old = rw length-set at l
-
-    go : Dec (k ≡ i) → Movable w (getD (set rs i v) k noRow)
-    go (yes e) =
-        let is : getD (set rs i v) k noRow ≡ v = rw e (getD-set-same rs i v noRow (rw e at in-old)) in
-        absurd (false≢true (sym still ∙ rw is at m))
-    go (no e) = rw (getD-set-other rs i k v noRow e) (ready k in-old (rw (getD-set-other rs i k v noRow e) at m))
+pub ready-set : (w : ℕ) (rs : List Row) (i : ℕ) (v : Row) → i < length rs → v .movable ≡ false → Ready w rs → Ready w (set rs i v)
+ready-set w rs i v within still ready k l =
+    set-each (λ (m : ℕ) (x : Row). x .movable ≡ true → Movable w x) rs i v within ready (λ can. absurd (false≢true (sym still ∙ can))) k
+    (simp length-set at l)
 
 -- A turn that moves row i, r, of rows whose ticks here are s.
 pub record Turn (w room s : ℕ) (rs : List Row) (i : ℕ) (r : Row) : Type 0 where
@@ -82,7 +65,7 @@ turn-law w room rs i r s ready sum small over next = record {
     over = over;
     small = small;
   };
-  ready = λ v still. ready-set w rs i v still ready;
+  ready = λ v still. ready-set w rs i v (leads .within) still ready;
   moves = λ left m e. rw (e, lt-leb _ _ (rw sum at over), next, ← sum);
 }
   where

@@ -6,88 +6,15 @@ use mathlib.Core.Bool.{Bool, true, false, cond, _&&_}
 use Prim.Native.Nat.{ℕ, _+_, _-_, _*_, _≤_, _<_, min}
 use native.Mathlib.Nat.{mul-le-mul-left}
 use native.Mathlib.Omega.{arith}
-use borrow.Author.Tests.{leb-true, leb-false, ltb-true, ltb-false, lt-ltb, le-ltb}
-use lib.Dec.{leb, ltb}
+use borrow.Author.Tests.{ltb-true, ltb-false, lt-ltb, le-ltb}
+use lib.Dec.{ltb}
 use Rattle.split.specs.Home.{ceil, keepOf, giveOf}
-use Rattle.split.specs.Steps.{put, movedOf}
+use Rattle.split.specs.Steps.{movedOf}
 use Rattle.split.specs.Columns.{Movable}
 use Rattle.split.specs.Closed.{placedOf}
 use Rattle.split.specs.Rows.{Row}
-use Rattle.split.proofs.Number.{ceil-below, ceil-least, tight-fits}
-
--- The far end keeps at most the cost at home.
-pub keep-near : (w n f : ℕ) → n ≤ w → keepOf w n f ≤ n
-unfolding keepOf
-keep-near w n f fits = go (leb f w) refl
-  where
-    go : (t : Bool) → leb f w ≡ t → cond t 0 (ceil (n * (f - w)) (f - n)) ≤ n
-    go true e = omega arith
-    go false e =
-        let long : w < f = leb-false f w e in
-        ceil-below (n * (f - w)) (f - n) n (omega arith) (omega (arith, mul-le-mul-left {m = f - w} {n = f - n} n (omega arith)))
-
--- Where one step's rule takes a row: to its far end, or to what is left of the room.
-pub data Goes (w room all : ℕ) (r : Row) : Row → Type 0 where
-  end : room + r .here ≤ all + keepOf w (r .near) (r .far)
-      → Goes w room all r (put r (keepOf w (r .near) (r .far)) (giveOf w (r .near) (r .far)))
-  part : (h : ℕ) → keepOf w (r .near) (r .far) < h → h + all ≡ room + r .here
-      → Goes w room all r (put r h (ceil (r .far * (r .near - h)) (r .near)))
-
-pub moved-goes : (w room all : ℕ) (r : Row) → r .here ≤ all → Goes w room all r (movedOf w room all r)
-unfolding movedOf
-moved-goes w room all r among = go (leb room (all - r .here + keepOf w (r .near) (r .far))) refl
-  where
-    rest : ℕ
-    rest = room - (all - r .here)
-
-    go : (t : Bool) → leb room (all - r .here + keepOf w (r .near) (r .far)) ≡ t
-        → Goes w room all r
-        (cond t (put r (keepOf w (r .near) (r .far)) (giveOf w (r .near) (r .far))) (put r rest (ceil (r .far * (r .near - rest)) (r .near))))
-    go true e = end (omega (arith, leb-true))
-    go false e =
-        let more : all - r .here + keepOf w (r .near) (r .far) < room = leb-false _ _ e in
-        part rest (omega arith) (omega arith)
-
--- The rest of a job's work, rounded up, where it keeps h of its n ticks at home: it falls as h grows ..
-rest-falls : (n f h k : ℕ) → 0 < n → h ≤ k → ceil (f * (n - k)) n ≤ ceil (f * (n - h)) n
-rest-falls n f h k some more =
-    ceil-below (f * (n - k)) n (ceil (f * (n - h)) n) some
-    (omega (arith, ceil-least (f * (n - h)) n some, mul-le-mul-left {m = n - k} {n = n - h} f (omega arith)))
-
--- .. and is at most what the far end has there, where it keeps at least what the far end does.
-rest-give : (w n f h : ℕ) → 0 < n → n ≤ w → keepOf w n f ≤ h → ceil (f * (n - h)) n ≤ giveOf w n f
-unfolding keepOf giveOf
-rest-give w n f h some fits more = go (leb f w) refl (keep-near w n f fits) more
-  where
-    l : ℕ
-    l = ceil (n * (f - w)) (f - n)
-
-    go : (t : Bool) → leb f w ≡ t → cond t 0 l ≤ n → cond t 0 l ≤ h → ceil (f * (n - h)) n ≤ cond t f (w - cond t 0 l)
-    go true e low k = ceil-below (f * (n - h)) n f some (omega (arith, mul-le-mul-left {m = n - h} {n = n} f (omega arith)))
-    go false e low k =
-        let long : w < f = leb-false f w e in
-        let fit = tight-fits n f w l fits long low (ceil-least (n * (f - w)) (f - n) (omega arith)) in
-        ceil-below (f * (n - h)) n (w - l) some (omega (arith, fit, mul-le-mul-left {m = n - h} {n = n - l} f (omega arith)))
-
-give-below : (w n f : ℕ) → giveOf w n f ≤ w
-unfolding giveOf
-give-below w n f = go (leb f w) refl
-  where
-    go : (t : Bool) → leb f w ≡ t → cond t f (w - keepOf w n f) ≤ w
-    go true e = leb-true f w e
-    go false e = omega arith
-
--- So a row that is moved has at most its cost here, and at most the window there.
-pub moved-fits : (w room all : ℕ) (r : Row) → Movable w r → r .here ≤ all → room < all
-    → (movedOf w room all r .here ≤ r .near) × (movedOf w room all r .there ≤ w)
-moved-fits w room all r mine among over = go (moved-goes w room all r among)
-  where
-    go : {v : Row} → Goes w room all r v → (v .here ≤ r .near) × (v .there ≤ w)
-    go (end h) = (keep-near w (r .near) (r .far) (mine .fits), give-below w (r .near) (r .far))
-    go (part h more e) = (
-      omega (arith, mine .whole),
-      omega (arith, rest-give w (r .near) (r .far) h (mine .some) (mine .fits) (omega arith), give-below w (r .near) (r .far)),
-    )
+use Rattle.split.proofs.steps.Number.{ceil-below, ceil-least}
+use Rattle.split.proofs.steps.OneStep.{keep-near, rest-give, Goes, end, part, moved-goes}
 
 -- A row stays if it cannot be moved, or if the ticks are within the room; else it goes by one step's rule.
 module _ (w room all : ℕ) (r : Row) where
@@ -106,6 +33,12 @@ module _ (w room all : ℕ) (r : Row) where
       go : (t : Bool) → cond (t && false) (movedOf w room all r) r ≡ r
       go true = refl
       go false = refl
+
+-- The rest of a job's work, rounded up, where it keeps h of its n ticks at home: it falls as h grows ..
+rest-falls : (n f h k : ℕ) → 0 < n → h ≤ k → ceil (f * (n - k)) n ≤ ceil (f * (n - h)) n
+rest-falls n f h k some more =
+    ceil-below (f * (n - k)) n (ceil (f * (n - h)) n) some
+    (omega (arith, ceil-least (f * (n - h)) n some, mul-le-mul-left {m = n - k} {n = n - h} f (omega arith)))
 
 -- A movable row, where it goes: at its far end, or with as much of its cost here as there is room for and the rest there.
 data Lies (w room all : ℕ) (r : Row) (v : Row) : Type 0 where

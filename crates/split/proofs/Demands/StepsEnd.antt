@@ -20,13 +20,14 @@ use Rattle.split.specs.Steps.{hereSum, thereSum, nextOf, put, movedOf, s
 use Rattle.split.specs.Columns.{noRow}
 use Rattle.split.specs.Shares.{sharesSeen}
 use Rattle.split.specs.Rows.{Row, Next, Nobody, At}
-use Rattle.split.proofs.NextRow.{Leads, IsNext, next-law}
-use Rattle.split.proofs.StepByStep.{steps-within}
-use Rattle.split.proofs.Number.{part-most}
-use Rattle.split.proofs.View.{see, DoneSeen}
-use Rattle.split.proofs.Price.{Priced, priced-more, Each, each-priced, each-does}
-use Rattle.split.proofs.Totals.{sum-set, set-each, waiting, waiting-none, none-waiting, unevens-none, unevens-set}
-use Rattle.split.proofs.RowPrices.{Waits, Stand, stand-later, far-stands, part-does}
+use Rattle.split.proofs.steps.NextRow.{Leads, IsNext, next-law}
+use Rattle.split.proofs.Demands.View.{see, DoneSeen}
+use Rattle.split.proofs.Demands.Price.{Priced, priced-more, Each, each-priced, each-does}
+use Rattle.split.proofs.Demands.RowPrices.{Waits, Stand, stand-later, far-stands, part-does}
+use Rattle.split.proofs.Demands.Bounds.{part-most}
+use Rattle.split.proofs.Demands.Unevens.{unevens-none, unevens-set}
+use Rattle.split.proofs.steps.RowSums.{sum-set, set-each, waiting, waiting-none, none-waiting}
+use Rattle.split.proofs.steps.StepByStep.{steps-within}
 
 module _ (k : Kind) (w room : ℕ) (js : List Job) where
   -- What holds of the rows whenever a step begins.
