@@ -1,24 +1,20 @@
 -- The answers of the code: what a refusal and shares say, and which of them the definition of the split gives. Assumes nothing.
-use mathlib.Core.Path.{_≡_, refl, sym, _∙_}
+use mathlib.Core.Path.{_≡_, refl, _∙_}
 use mathlib.Core.Bool.{true}
 use mathlib.Core.List.{List}
 use Prim.Native.Nat.{ℕ, zero, suc, _-_, _≤_, _<_}
 use native.Mathlib.Omega.{arith}
-use borrow.Author.Tests.{le-leb, le-ltb, lt-ltb}
+use borrow.Author.Tests.{le-ltb, lt-ltb}
 use lib.ListN.{drop, replicate}
 use Rattle.model.specs.Limits.{jobsMost}
 use Rattle.model.specs.Refusal.{Answer, given, refused, saysRefusal}
 use Rattle.model.specs.Split.{Ticks}
-use Rattle.model.specs.declared.Kind.{Kind}
 use Rattle.model.specs.declared.Kind.the-variants.{First, Second}
 use Rattle.model.specs.declared.Job.{Job}
 use Rattle.model.specs.declared.Refusal.{Refusal}
-use Rattle.split.specs.Steps.{hereSum, thereSum}
-use Rattle.split.specs.Shares.{sharesSeen, homeRows, homeTicks, settled, relieved, byOver, splitOf, Answers}
+use Rattle.split.specs.Shares.{sharesSeen, homeRows, homeTicks, relieved, byOver, splitOf, Answers}
 use Rattle.split.specs.Columns.{Answered, none}
-use Rattle.split.specs.Rows.{Row}
 use Rattle.split.specs.declared.Outcome.the-variants.{Shares}
-use Rattle.split.proofs.home.Homes.{home-there}
 
 pub answers-none : (refusal : Refusal) {answer : Answer (List Ticks)} → saysRefusal refusal ≡ answer → Answers answer (none refusal)
 answers-none refusal e = record { says = e; few = omega arith; rest1 = refl; rest2 = refl }
@@ -40,11 +36,7 @@ answers-shares n s1 s2 few x = record {
   rest2 = x .rest2 ∙ zeros-left n jobsMost;
 }
 
-pub settled-within : (k : Kind) (room away : ℕ) (rs : List Row) → hereSum rs ≤ room → thereSum rs ≤ away
-    → given (sharesSeen k rs) ≡ settled k room away rs
-unfolding settled
-settled-within k room away rs h t = rw (le-leb _ _ h, le-leb _ _ t)
-
+-- Which answer the definition gives, by which kinds are over at home.
 module _ (w room1 room2 : ℕ) (js : List Job) where
   pub split-both : room1 < homeTicks First js → room2 < homeTicks Second js → refused 6 0 ≡ splitOf w room1 room2 js
   unfolding byOver
@@ -58,9 +50,6 @@ module _ (w room1 room2 : ℕ) (js : List Job) where
   unfolding byOver
   split-second h t = rw (le-ltb _ _ h, lt-ltb _ _ t)
 
-  pub split-home : homeTicks First js ≤ room1 → homeTicks Second js ≤ room2
-      → settled First room1 room2 (homeRows First js) ≡ splitOf w room1 room2 js
+  pub split-home : homeTicks First js ≤ room1 → homeTicks Second js ≤ room2 → given (sharesSeen First (homeRows First js)) ≡ splitOf w room1 room2 js
   unfolding byOver
-  split-home h t =
-      rw (le-ltb _ _ h, le-ltb _ _ t)
-      (sym (settled-within First room1 room2 (homeRows First js) h (rw (home-there js) t)))
+  split-home h t = rw (le-ltb _ _ h, le-ltb _ _ t)

@@ -20,13 +20,13 @@ use Rattle.model.specs.declared.Job.{Job}
 use Rattle.model.proofs.Columns.{Case, on-first, on-second, on-both, case}
 use Rattle.legal.specs.Lawful.{LegalJob}
 use Rattle.split.specs.Home.{bothRow, atHome}
-use Rattle.split.specs.Steps.{hereSum, thereSum, stepsOf}
-use Rattle.split.specs.Shares.{shareOf, sharesSeen, homeRows, settled, relieved, splitOf}
-use Rattle.split.specs.Columns.{rowAt, rowsIn, bare, markOf, marksIn, GoneHome, Relieved, Answered, Ready, Summed}
+use Rattle.split.specs.Steps.{stepsOf}
+use Rattle.split.specs.Shares.{shareOf, sharesSeen, homeRows, homeTicks, settled, relieved, splitOf}
+use Rattle.split.specs.Columns.{rowAt, rowIn, rowsIn, homeAt, bare, markOf, marksIn, GoneHome, Relieved, Answered, Ready, Summed}
 use Rattle.split.specs.Rows.{Row}
 use Rattle.split.specs.declared.Sums.{Sums}
 use Rattle.split.proofs.home.Homes.{home-ready, home-there, home-here}
-use Rattle.split.proofs.Answers.{settled-within, split-both, split-first, split-second, split-home}
+use Rattle.split.proofs.Answers.{split-both, split-first, split-second, split-home}
 use Rattle.split.proofs.steps.Bare.{rows-bare, bare-here, bare-there, alike-steps, ready-bare, settled-alike}
 
 -- ---- a job at home, as what the columns have of it
@@ -58,46 +58,58 @@ row-seen Second a b j (on-both pa pb) = go (leb a b) refl
 
 -- ---- the jobs at home
 module _ {n : ℕ} {c1 c2 s1₀ s2₀ s1 s2 : List ℕ} {r : Sums} (gone : GoneHome n c1 c2 s1₀ s2₀ s1 s2 r) where
-  abbrev home : Kind → ℕ → Row
-  home k i = atHome k (jobAt (at c1 i) (at c2 i))
+  abbrev job : ℕ → Job
+  job i = jobAt (at c1 i) (at c2 i)
 
-  first-at : (i : ℕ) → i < n → at s1 i ≡ home First i .here
-  first-at i l = rw (gone .first) (front n (λ k. home First k .here) (drop n s1₀) i l)
+  abbrev js : List Job
+  js = jobsIn n c1 c2
 
-  second-at : (i : ℕ) → i < n → at s2 i ≡ home First i .there
-  second-at i l = rw (gone .second) (front n (λ k. home First k .there) (drop n s2₀) i l)
+  -- The ticks of the jobs at home in front of each column, and behind them what it had.
+  first-at : (i : ℕ) → i < n → at s1 i ≡ homeAt First c1 c2 i .here
+  first-at i l = rw (gone .first) (front n (λ k. homeAt First c1 c2 k .here) (drop n s1₀) i l)
+
+  second-at : (i : ℕ) → i < n → at s2 i ≡ homeAt First c1 c2 i .there
+  second-at i l = rw (gone .second) (front n (λ k. homeAt First c1 c2 k .there) (drop n s2₀) i l)
 
   rest-first : drop n s1 ≡ drop n s1₀
-  rest-first = rw (gone .first) (drop-at (upto n (λ k. home First k .here)) (drop n s1₀) n (upto-length n (λ k. home First k .here)))
+  rest-first =
+      rw (gone .first) (drop-at (upto n (λ k. homeAt First c1 c2 k .here)) (drop n s1₀) n (upto-length n (λ k. homeAt First c1 c2 k .here)))
 
   rest-second : drop n s2 ≡ drop n s2₀
-  rest-second = rw (gone .second) (drop-at (upto n (λ k. home First k .there)) (drop n s2₀) n (upto-length n (λ k. home First k .there)))
+  rest-second =
+      rw (gone .second) (drop-at (upto n (λ k. homeAt First c1 c2 k .there)) (drop n s2₀) n (upto-length n (λ k. homeAt First c1 c2 k .there)))
 
   -- The rows of the columns, seen from a kind.
-  home-rows : (k : Kind) → rowsIn n (marksIn n (on k c2 c1) (on k s1 s2)) (on k c2 c1) (on k s1 s2) (on k s2 s1) ≡ map bare (homeRows k (jobsIn n c1 c2))
-  home-rows k =
-      upto-same n _ _ (row k) ∙ sym (upto-map bare n (home k)) ∙ ap (map bare) (sym (upto-map (atHome k) n (λ i. jobAt (at c1 i) (at c2 i))))
+  home-rows : (k : Kind) → rowsIn n (marksIn n (on k c2 c1) (on k s1 s2)) (on k c2 c1) (on k s1 s2) (on k s2 s1) ≡ map bare (homeRows k js)
+  home-rows k = upto-same n _ _ (row k) ∙ sym (upto-map bare n (homeAt k c1 c2)) ∙ ap (map bare) (sym (upto-map (atHome k) n job))
     where
       row : (h : Kind) (i : ℕ) → i < n →
-          rowAt (at (marksIn n (on h c2 c1) (on h s1 s2)) i) (at (on h c2 c1) i) (at (on h s1 s2) i) (at (on h s2 s1) i) ≡ bare (home h i)
+          rowIn (marksIn n (on h c2 c1) (on h s1 s2)) (on h c2 c1) (on h s1 s2) (on h s2 s1) i ≡ bare (homeAt h c1 c2 i)
       row First i l =
           rw (upto-at n (λ j. markOf (at c2 j) (at s1 j)) 0 i l, first-at i l, second-at i l) (row-seen First (at c1 i) (at c2 i) _ (case (at c1 i) (at c2 i)))
       row Second i l =
           rw (upto-at n (λ j. markOf (at c1 j) (at s2 j)) 0 i l, first-at i l, second-at i l) (row-seen Second (at c1 i) (at c2 i) _ (case (at c1 i) (at c2 i)))
 
-  home-shares : sharesIn n s1 s2 ≡ sharesSeen First (homeRows First (jobsIn n c1 c2))
+  home-shares : sharesIn n s1 s2 ≡ sharesSeen First (homeRows First js)
   home-shares =
-      upto-same n _ _ (λ i l. rw (first-at i l, second-at i l)) ∙ sym (upto-map (shareOf First) n (home First))
-      ∙ ap (sharesSeen First) (sym (upto-map (atHome First) n (λ i. jobAt (at c1 i) (at c2 i))))
+      upto-same n _ _ (λ i l. rw (first-at i l, second-at i l)) ∙ sym (upto-map (shareOf First) n (homeAt First c1 c2))
+      ∙ ap (sharesSeen First) (sym (upto-map (atHome First) n job))
+
+  -- The sums are the ticks at home on each kind.
+  home-first : r .here ≡ homeTicks First js
+  home-first = gone .sums .here
+
+  home-second : r .there ≡ homeTicks Second js
+  home-second = gone .sums .there ∙ home-there js
 
   -- What the steps ask, where a kind is over.
-  module _ (w : ℕ) (legal : All (LegalJob w) (jobsIn n c1 c2)) where
+  module _ (w : ℕ) (legal : All (LegalJob w) js) where
     pub asks-first : Ready w (rowsIn n (marksIn n c2 s1) c2 s1 s2) × Summed (rowsIn n (marksIn n c2 s1) c2 s1 s2) r
     asks-first = rw (home-rows First) (
-      ready-bare w (homeRows First (jobsIn n c1 c2)) (home-ready First w (jobsIn n c1 c2) legal),
+      ready-bare w (homeRows First js) (home-ready First w js legal),
       record {
-        here = gone .sums .here ∙ sym (bare-here (homeRows First (jobsIn n c1 c2)));
-        there = gone .sums .there ∙ sym (bare-there (homeRows First (jobsIn n c1 c2)));
+        here = home-first ∙ sym (bare-here (homeRows First js));
+        there = gone .sums .there ∙ sym (bare-there (homeRows First js));
         small-here = gone .sums .small-here;
         small-there = gone .sums .small-there;
       },
@@ -105,55 +117,50 @@ module _ {n : ℕ} {c1 c2 s1₀ s2₀ s1 s2 : List ℕ} {r : Sums} (gone : GoneH
 
     pub asks-second : Ready w (rowsIn n (marksIn n c1 s2) c1 s2 s1) × Summed (rowsIn n (marksIn n c1 s2) c1 s2 s1) (record { here = r .there; there = r .here })
     asks-second = rw (home-rows Second) (
-      ready-bare w (homeRows Second (jobsIn n c1 c2)) (home-ready Second w (jobsIn n c1 c2) legal),
+      ready-bare w (homeRows Second js) (home-ready Second w js legal),
       record {
-        here = gone .sums .there ∙ home-there (jobsIn n c1 c2) ∙ sym (bare-here (homeRows Second (jobsIn n c1 c2)));
-        there = gone .sums .here ∙ sym (home-here (jobsIn n c1 c2)) ∙ sym (bare-there (homeRows Second (jobsIn n c1 c2)));
+        here = home-second ∙ sym (bare-here (homeRows Second js));
+        there = home-first ∙ sym (home-here js) ∙ sym (bare-there (homeRows Second js));
         small-here = gone .sums .small-there;
         small-there = gone .sums .small-here;
       },
     )
 
   -- The answer, by which kinds are over.
-  relieved-home : (k : Kind) (w room away : ℕ) (rows : List Row) → map bare rows ≡ rows → rows ≡ map bare (homeRows k (jobsIn n c1 c2))
-      → settled k room away (stepsOf n w room rows) ≡ relieved k w room away (jobsIn n c1 c2)
+  relieved-home : (k : Kind) (w room away : ℕ) (rows : List Row) → map bare rows ≡ rows → rows ≡ map bare (homeRows k js)
+      → settled k room away (stepsOf n w room rows) ≡ relieved k w room away js
   relieved-home k w room away rows b e =
-      rw (upto-length n (λ i. jobAt (at c1 i) (at c2 i)))
-      (settled-alike k room away _ _ (alike-steps n w room rows (homeRows k (jobsIn n c1 c2)) (b ∙ e)))
+      rw (upto-length n job) (settled-alike k room away _ _ (alike-steps n w room rows (homeRows k js) (b ∙ e)))
 
   module _ (w room1 room2 : ℕ) where
-    pub both-over : room1 < r .here → room2 < r .there → Answered (splitOf w room1 room2 (jobsIn n c1 c2)) n s1₀ s2₀ s1 s2 false
+    pub both-over : room1 < r .here → room2 < r .there → Answered (splitOf w room1 room2 js) n s1₀ s2₀ s1 s2 false
     both-over h t = record {
-      is = split-both w room1 room2 (jobsIn n c1 c2) (omega (arith, gone .sums .here)) (omega (arith, gone .sums .there, home-there (jobsIn n c1 c2)));
+      is = split-both w room1 room2 js (omega (arith, home-first)) (omega (arith, home-second));
       rest1 = rest-first;
       rest2 = rest-second;
     }
 
     pub first-over : room1 < r .here → r .there ≤ room2 → {s1' s2' : List ℕ} {ok : Bool} → Relieved n w room1 room2 c2 s1 s2 s1' s2' ok
-        → Answered (splitOf w room1 room2 (jobsIn n c1 c2)) n s1₀ s2₀ s1' s2' ok
+        → Answered (splitOf w room1 room2 js) n s1₀ s2₀ s1' s2' ok
     first-over h t x = record {
       is = x .answer First ∙ relieved-home First w room1 room2 _ (rows-bare n (marksIn n c2 s1) c2 s1 s2) (home-rows First)
-          ∙ split-first w room1 room2 (jobsIn n c1 c2) (omega (arith, gone .sums .here)) (omega (arith, gone .sums .there, home-there (jobsIn n c1 c2)));
+          ∙ split-first w room1 room2 js (omega (arith, home-first)) (omega (arith, home-second));
       rest1 = x .rest-here ∙ rest-first;
       rest2 = x .rest-there ∙ rest-second;
     }
 
     pub second-over : r .here ≤ room1 → room2 < r .there → {s1' s2' : List ℕ} {ok : Bool} → Relieved n w room2 room1 c1 s2 s1 s2' s1' ok
-        → Answered (splitOf w room1 room2 (jobsIn n c1 c2)) n s1₀ s2₀ s1' s2' ok
+        → Answered (splitOf w room1 room2 js) n s1₀ s2₀ s1' s2' ok
     second-over h t x = record {
       is = x .answer Second ∙ relieved-home Second w room2 room1 _ (rows-bare n (marksIn n c1 s2) c1 s2 s1) (home-rows Second)
-          ∙ split-second w room1 room2 (jobsIn n c1 c2) (omega (arith, gone .sums .here)) (omega (arith, gone .sums .there, home-there (jobsIn n c1 c2)));
+          ∙ split-second w room1 room2 js (omega (arith, home-first)) (omega (arith, home-second));
       rest1 = x .rest-there ∙ rest-first;
       rest2 = x .rest-here ∙ rest-second;
     }
 
-    pub none-over : r .here ≤ room1 → r .there ≤ room2 → Answered (splitOf w room1 room2 (jobsIn n c1 c2)) n s1₀ s2₀ s1 s2 true
-    none-over h t =
-        let h' : hereSum (homeRows First (jobsIn n c1 c2)) ≤ room1 = omega (arith, gone .sums .here) in
-        let t' : thereSum (homeRows First (jobsIn n c1 c2)) ≤ room2 = omega (arith, gone .sums .there) in
-        record {
-          is = ap given home-shares ∙ settled-within First room1 room2 (homeRows First (jobsIn n c1 c2)) h' t'
-              ∙ split-home w room1 room2 (jobsIn n c1 c2) h' (omega (arith, home-there (jobsIn n c1 c2)));
-          rest1 = rest-first;
-          rest2 = rest-second;
-        }
+    pub none-over : r .here ≤ room1 → r .there ≤ room2 → Answered (splitOf w room1 room2 js) n s1₀ s2₀ s1 s2 true
+    none-over h t = record {
+      is = ap given home-shares ∙ split-home w room1 room2 js (omega (arith, home-first)) (omega (arith, home-second));
+      rest1 = rest-first;
+      rest2 = rest-second;
+    }

@@ -7,6 +7,7 @@
 --   Ready      each row that can be moved is movable: what the steps are given
 --   Asks       what one step is given
 --   rowAt      the row of four numbers: it can be moved where its near cost is above 0
+--   rowIn      the row of a number in four columns
 --   rowsIn     the rows of four columns
 --   bare       a row without the near cost that it no longer needs: what a column keeps of it
 --   markOf     the near cost that is left of a job at home: 0 where it cannot be moved
@@ -15,10 +16,12 @@
 --   betterOf   the better of the one found so far and a row, by the products alone
 --   Small      the costs of the one found so far have 32 bits
 --   Found      the one found is the next of all rows with these costs, whatever their ticks
+--   goneTo     where one step takes a row at home, by its costs
 --   endOf      the ticks of a row here and there, as the code passes them
 --   farEndOf   the far end of a job, as the code passes it
 --   Advanced   a step on one row: what is stored, and the sums after it
 --   Stepped    the steps on the first n rows: the rows and the sums after them
+--   homeAt     a job of two columns of costs at home, seen from a kind
 --   GoneHome   the first n jobs at home: what is stored, and the sums
 --   says       what the code's answer says, with its two columns, as an answer by number and place
 --   Relieved   the answer where the steps from a kind are over, seen from either kind
@@ -86,8 +89,11 @@ pub record Asks (w room all : ℕ) (r : Row) : Type 0 where
 abbrev pub rowAt : (near far here there : ℕ) → Row
 rowAt a b h t = record { near = a; far = b; here = h; there = t; movable = ltb 0 a }
 
+abbrev pub rowIn : (near far here there : List ℕ) → ℕ → Row
+rowIn near far here there i = rowAt (at near i) (at far i) (at here i) (at there i)
+
 abbrev pub rowsIn : ℕ → (near far here there : List ℕ) → List Row
-rowsIn n near far here there = upto n (λ i. rowAt (at near i) (at far i) (at here i) (at there i))
+rowsIn n near far here there = upto n (rowIn near far here there)
 
 abbrev pub bare : Row → Row
 bare r = record { near = cond (r .movable) (r .near) 0; far = r .far; here = r .here; there = r .there; movable = r .movable }
@@ -114,6 +120,9 @@ pub record Found (n : ℕ) (near far : List ℕ) (r : Best) : Type 0 where
   pub is : (here there : List ℕ) → r ≡ bestOf n (nextOf (rowsIn n near far here there))
 
 -- ---- a step
+abbrev pub goneTo : (w room all near far : ℕ) → Row
+goneTo w room all a b = movedOf w room all (bothRow true a b)
+
 abbrev pub endOf : Row → Ends
 endOf r = record { keep = r .here; give = r .there }
 
@@ -123,11 +132,11 @@ farEndOf w n f = record { keep = keepOf w n f; give = giveOf w n f }
 -- Row i, at home with its cost, goes where the step's rule says.
 pub record Advanced (w room : ℕ) (sums : Sums) (far i : ℕ) (near here there near' here' there' : List ℕ) (r : Sums) : Type 0 where
   pub set-near : near' ≡ set near i 0
-  pub set-here : here' ≡ set here i (movedOf w room (sums .here) (bothRow true (at near i) far) .here)
-  pub set-there : there' ≡ set there i (movedOf w room (sums .here) (bothRow true (at near i) far) .there)
-  pub sum-here : r .here + at near i ≡ sums .here + movedOf w room (sums .here) (bothRow true (at near i) far) .here
-  pub sum-there : r .there ≡ sums .there + movedOf w room (sums .here) (bothRow true (at near i) far) .there
-  pub small : movedOf w room (sums .here) (bothRow true (at near i) far) .there ≤ 4294967295
+  pub set-here : here' ≡ set here i (goneTo w room (sums .here) (at near i) far .here)
+  pub set-there : there' ≡ set there i (goneTo w room (sums .here) (at near i) far .there)
+  pub sum-here : r .here + at near i ≡ sums .here + goneTo w room (sums .here) (at near i) far .here
+  pub sum-there : r .there ≡ sums .there + goneTo w room (sums .here) (at near i) far .there
+  pub small : goneTo w room (sums .here) (at near i) far .there ≤ 4294967295
 
 -- ---- the steps
 pub record Stepped (n w room : ℕ) (near far here there near' here' there' : List ℕ) (r : Sums) : Type 0 where
@@ -138,10 +147,13 @@ pub record Stepped (n w room : ℕ) (near far here there near' here' there' : Li
   pub rest-there : drop n there' ≡ drop n there
 
 -- ---- going home, and the answer
+abbrev pub homeAt : Kind → (c1 c2 : List ℕ) → ℕ → Row
+homeAt k c1 c2 i = atHome k (jobAt (at c1 i) (at c2 i))
+
 -- Each column has the jobs' ticks at home in front, and behind them what it had.
 pub record GoneHome (n : ℕ) (c1 c2 s1 s2 s1' s2' : List ℕ) (r : Sums) : Type 0 where
-  pub first : s1' ≡ upto n (λ i. atHome First (jobAt (at c1 i) (at c2 i)) .here) ++ drop n s1
-  pub second : s2' ≡ upto n (λ i. atHome First (jobAt (at c1 i) (at c2 i)) .there) ++ drop n s2
+  pub first : s1' ≡ upto n (λ i. homeAt First c1 c2 i .here) ++ drop n s1
+  pub second : s2' ≡ upto n (λ i. homeAt First c1 c2 i .there) ++ drop n s2
   pub sums : Summed (homeRows First (jobsIn n c1 c2)) r
 
 abbrev pub says : Bool → ℕ → (s1 s2 : List ℕ) → Answer (List Ticks)

@@ -10,9 +10,8 @@ ghost use lib.Dec.{leb};
 ghost use lib.ListN.{length, drop};
 ghost use Rattle.rows.specs.Upto.{at};
 ghost use Rattle.model.specs.Limits.{windowMost, jobsMost};
-ghost use Rattle.split.specs.Columns.{sumMost, Summed, Ready, Asks, rowsIn, markOf, marksIn, betterOf, Small, Found, endOf, farEndOf, Advanced, Stepped, Relieved};
+ghost use Rattle.split.specs.Columns.{sumMost, Summed, Ready, Asks, rowsIn, markOf, marksIn, betterOf, Small, Found, goneTo, endOf, farEndOf, Advanced, Stepped, Relieved};
 ghost use Rattle.split.specs.Home.{bothRow};
-ghost use Rattle.split.specs.Steps.{movedOf};
 use crate::Ends;
 use crate::Sums;
 use model::JOBS_MOST;
@@ -32,7 +31,7 @@ fn far_end(w: u32, near: u32, far: u32) -> Ends
     if far <= w {
         return Ends { keep: 0, give: far };
     }
-    // Stretched: near ≤ w < far, so that d is above 0. Rounded up, since with less at home the rest of the window is too short for the rest of its work.
+    // Stretched: near ≤ w < far, so that d is above 0. Rounded up: with less at home, the rest of the window is too short for the rest of the work.
     let d = (far - near) as u64;
     let keep = (((near as u64) * ((far - w) as u64) + (d - 1)) / d) as u32;
     // All the rest of the window, also where fewer ticks would do: so the job is an even mover, and only the last one moved can be uneven.
@@ -45,7 +44,7 @@ fn far_end(w: u32, near: u32, far: u32) -> Ends
 // One step: where a row at home goes, `all` being the ticks of all rows here.
 fn moved(w: u32, room: u64, all: u64, near: u32, far: u32) -> Ends
     requires { ⌜ Asks w room all (bothRow true near far) ⌝ }
-    ensures { λ r. ⌜ r ≡ endOf (movedOf w room all (bothRow true near far)) ⌝ }
+    ensures { λ r. ⌜ r ≡ endOf (goneTo w room all near far) ⌝ }
 {
     let end = far_end(w, near, far);
     let others = all - (near as u64);

@@ -9,21 +9,24 @@ use Rattle.rows.specs.Upto.{at}
 use Rattle.rows.proofs.Upto.{upto-sum, upto-map, fill}
 use Rattle.model.specs.Columns.{jobAt, jobsIn}
 use Rattle.model.specs.declared.Kind.the-variants.{First}
+use Rattle.model.specs.declared.Job.{Job}
 use Rattle.split.specs.Home.{atHome}
-use Rattle.split.specs.Columns.{endOf, GoneHome, sumMost, Summed}
+use Rattle.split.specs.Columns.{endOf, GoneHome, sumMost, Summed, homeAt}
 use Rattle.split.specs.Shares.{homeRows}
 use Rattle.split.specs.Rows.{Row}
 use Rattle.split.specs.declared.Ends.{Ends}
 
-module _ (i : ℕ) (c1 c2 : List ℕ) (h t : ℕ) (to : Ends) (e : to ≡ endOf (atHome First (jobAt (at c1 i) (at c2 i))))
+module _ (i : ℕ) (c1 c2 : List ℕ) (h t : ℕ) (to : Ends) (e : to ≡ endOf (homeAt First c1 c2 i))
     (small-h : h + to .keep ≤ sumMost) (small-t : t + to .give ≤ sumMost) where
-  more : (g : Row → ℕ) → sumOf g (homeRows First (jobsIn (i + 1) c1 c2))
-      ≡ sumOf g (homeRows First (jobsIn i c1 c2)) + g (atHome First (jobAt (at c1 i) (at c2 i)))
-  more g =
-      rw (upto-map (atHome First) (i + 1) (λ k. jobAt (at c1 k) (at c2 k)), upto-map (atHome First) i (λ k. jobAt (at c1 k) (at c2 k)))
-      (upto-sum g i (λ k. atHome First (jobAt (at c1 k) (at c2 k))))
+  abbrev job : ℕ → Job
+  job k = jobAt (at c1 k) (at c2 k)
 
-  -- The ticks of one job more.
+  more : (g : Row → ℕ) → sumOf g (homeRows First (jobsIn (i + 1) c1 c2))
+      ≡ sumOf g (homeRows First (jobsIn i c1 c2)) + g (homeAt First c1 c2 i)
+  more g =
+      rw (upto-map (atHome First) (i + 1) job, upto-map (atHome First) i job)
+      (upto-sum g i (homeAt First c1 c2))
+
   pub sums-more : Summed (homeRows First (jobsIn i c1 c2)) (record { here = h; there = t })
       → Summed (homeRows First (jobsIn (i + 1) c1 c2)) (record { here = h + to .keep; there = t + to .give })
   sums-more s = record {
@@ -33,11 +36,10 @@ module _ (i : ℕ) (c1 c2 : List ℕ) (h t : ℕ) (to : Ends) (e : to ≡ endOf 
     small-there = small-t;
   }
 
-  -- One job more goes home.
   pub home-more : (s1₀ s2₀ s1 s2 : List ℕ) → i < length s1₀ → i < length s2₀ → GoneHome i c1 c2 s1₀ s2₀ s1 s2 (record { here = h; there = t })
       → GoneHome (i + 1) c1 c2 s1₀ s2₀ (set s1 i (to .keep)) (set s2 i (to .give)) (record { here = h + to .keep; there = t + to .give })
   home-more s1₀ s2₀ s1 s2 l1 l2 gone = record {
-    first = rw (e, gone .first) (fill (λ k. atHome First (jobAt (at c1 k) (at c2 k)) .here) s1₀ i l1);
-    second = rw (e, gone .second) (fill (λ k. atHome First (jobAt (at c1 k) (at c2 k)) .there) s2₀ i l2);
+    first = rw (e, gone .first) (fill (λ k. homeAt First c1 c2 k .here) s1₀ i l1);
+    second = rw (e, gone .second) (fill (λ k. homeAt First c1 c2 k .there) s2₀ i l2);
     sums = sums-more (gone .sums);
   }

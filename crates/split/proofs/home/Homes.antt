@@ -20,7 +20,7 @@ use Rattle.model.specs.declared.Job.the-variants.{Both, OnlyFirst, OnlySecond}
 use Rattle.legal.specs.Lawful.{LegalJob}
 use Rattle.split.specs.Home.{atHome, bothRow}
 use Rattle.split.specs.Steps.{thereSum}
-use Rattle.split.specs.Columns.{Movable, Ready}
+use Rattle.split.specs.Columns.{Movable, Ready, homeAt}
 use Rattle.split.specs.Shares.{homeRows, homeTicks}
 
 both-movable : (w n f : ℕ) (home : Bool) → 0 < n → (home ≡ true → (n ≤ f) × (n ≤ w)) → bothRow home n f .movable ≡ true
@@ -58,7 +58,7 @@ home-fits w (OnlyFirst c1) legal = (legal .1, omega arith)
 home-fits w (OnlySecond c2) legal = (omega arith, legal .1)
 
 pub homes-fit : (w n : ℕ) (c1 c2 : List ℕ) → All (LegalJob w) (jobsIn n c1 c2) → (i : ℕ) → i < n
-    → (atHome First (jobAt (at c1 i) (at c2 i)) .here ≤ w) × (atHome First (jobAt (at c1 i) (at c2 i)) .there ≤ w)
+    → (homeAt First c1 c2 i .here ≤ w) × (homeAt First c1 c2 i .there ≤ w)
 homes-fit w n c1 c2 legal i l =
     let js : ℕ → Job = λ k. jobAt (at c1 k) (at c2 k) in
     home-fits w (js i) (rw (upto-at n js (js i) i l) at (all-at (LegalJob w) (js i) (jobsIn n c1 c2) i (omega (arith, upto-length n js)) legal))
@@ -68,22 +68,22 @@ legal-longer w v h (Both c1 c2) legal = (legal .0, legal .1, omega arith, legal 
 legal-longer w v h (OnlyFirst c1) legal = (legal .0, omega arith, legal .2)
 legal-longer w v h (OnlySecond c2) legal = (legal .0, omega arith, legal .2)
 
-sides : (j : Job) → (atHome First j .there ≡ atHome Second j .here) × (atHome Second j .there ≡ atHome First j .here)
+home-sides : (j : Job) → (atHome First j .there ≡ atHome Second j .here) × (atHome Second j .there ≡ atHome First j .here)
 unfolding atHome
-sides (Both c1 c2) = go (leb (c1 .0) (c2 .0)) refl
+home-sides (Both c1 c2) = go (leb (c1 .0) (c2 .0)) refl
   where
     go : (t : Bool) → leb (c1 .0) (c2 .0) ≡ t
         → (bothRow t (c1 .0) (c2 .0) .there ≡ bothRow (ltb (c2 .0) (c1 .0)) (c2 .0) (c1 .0) .here)
         × (bothRow (ltb (c2 .0) (c1 .0)) (c2 .0) (c1 .0) .there ≡ bothRow t (c1 .0) (c2 .0) .here)
     go true e = rw (le-ltb (c2 .0) (c1 .0) (leb-true _ _ e)) (refl, refl)
     go false e = rw (lt-ltb (c2 .0) (c1 .0) (leb-false _ _ e)) (refl, refl)
-sides (OnlyFirst c1) = (refl, refl)
-sides (OnlySecond c2) = (refl, refl)
+home-sides (OnlyFirst c1) = (refl, refl)
+home-sides (OnlySecond c2) = (refl, refl)
 
 pub home-there : (js : List Job) → thereSum (homeRows First js) ≡ homeTicks Second js
 home-there [] = refl
-home-there (j ∷ js) = omega (arith, sides j .0, home-there js)
+home-there (j ∷ js) = omega (arith, home-sides j .0, home-there js)
 
 pub home-here : (js : List Job) → thereSum (homeRows Second js) ≡ homeTicks First js
 home-here [] = refl
-home-here (j ∷ js) = omega (arith, sides j .1, home-here js)
+home-here (j ∷ js) = omega (arith, home-sides j .1, home-here js)

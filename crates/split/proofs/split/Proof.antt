@@ -37,11 +37,13 @@ refused-requires c κs = search needs
 enum-told : tie.Need-enum-told
 enum-told c = search needs
 
+-- The checks have passed.
+legal : (c : tie.After-enum-told) → let a = c .before .before .before .args in legalOf (a .board) (a .n) (jobsIn (a .n) (a .first .now) (a .second .now)) ≡ given tt
+legal c = sym (rw (c .enum-told .given .1) at (c .before .before .check .ensures))
+
 share-out-requires : tie.Need-share-out-requires
 share-out-requires c κs =
-    let a = c .before .before .before .args in
-    let legal : legalOf (a .board) (a .n) (jobsIn (a .n) (a .first .now) (a .second .now)) ≡ given tt = sym (rw (c .enum-told .given .1) at (c .before .before .check .ensures)) in
-    let lawful = legal-lawful (a .board) (a .n) (jobsIn (a .n) (a .first .now) (a .second .now)) legal in
+    let lawful = legal-lawful _ _ _ (legal c) in
     (lawful .window-most, lawful .few, lawful .jobs)
 
 returns : tie.Need-returns
@@ -50,10 +52,7 @@ returns c =
     promised _ _ _ _ (rw (c .refused .ensures) (answers-none _ (rw (← e))))
 
 returns-2 : tie.Need-returns-2
-returns-2 c =
-    let a = c .before .before .before .before .args in
-    let legal : legalOf (a .board) (a .n) (jobsIn (a .n) (a .first .now) (a .second .now)) ≡ given tt = sym (rw (c .before .enum-told .given .1) at (c .before .before .before .check .ensures)) in
-    promised _ _ _ _ (rw legal (c .share-out .ensures))
+returns-2 c = promised _ _ _ _ (rw (legal (c .before)) (c .share-out .ensures))
 
 pub split-spec : {M : Type 1} → statement M
 split-spec =

@@ -7,13 +7,13 @@ use Prim.Native.Nat.{ℕ, zero, suc, _+_, _-_}
 use native.Mathlib.Omega.{arith}
 use borrow.Author.Tests.{ltb-false}
 use lib.Dec.{leb, ltb}
-use lib.ListN.{length, set, getD}
+use lib.ListN.{set, getD, length-map}
 use Rattle.rows.specs.Upto.{at}
 use Rattle.rows.proofs.Upto.{upto-same, upto-map}
 use Rattle.model.specs.declared.Kind.{Kind}
-use Rattle.split.specs.Home.{keepOf, bothRow}
+use Rattle.split.specs.Home.{keepOf}
 use Rattle.split.specs.Steps.{hereSum, thereSum, ahead, better, nextFrom, nextOf, movedOf, stepOf, stepsOf}
-use Rattle.split.specs.Columns.{rowAt, rowsIn, bare, noRow, Movable, Ready}
+use Rattle.split.specs.Columns.{rowAt, rowIn, rowsIn, goneTo, bare, noRow, Movable, Ready}
 use Rattle.split.specs.Shares.{shareOf, sharesSeen, settled}
 use Rattle.split.specs.Rows.{Row, Next, Nobody, At}
 
@@ -26,7 +26,7 @@ bare-at a b h t = go (ltb 0 a) refl
 
 pub rows-bare : (n : ℕ) (near far here there : List ℕ) → map bare (rowsIn n near far here there) ≡ rowsIn n near far here there
 rows-bare n near far here there =
-    upto-map bare n (λ i. rowAt (at near i) (at far i) (at here i) (at there i)) ∙ upto-same n _ _ (λ i _. bare-at (at near i) (at far i) (at here i) (at there i))
+    upto-map bare n (rowIn near far here there) ∙ upto-same n _ _ (λ i _. bare-at (at near i) (at far i) (at here i) (at there i))
 
 bare-better : (x : Next) (i : ℕ) (r : Row) → better x i (bare r) ≡ better x i r
 unfolding better
@@ -91,8 +91,7 @@ bare-bare r = go (r .movable) refl
     go false e = rw e
 
 -- A row that was moved.
-pub moved-bare : (w room s a b : ℕ) → bare (movedOf w room s (bothRow true a b))
-    ≡ rowAt 0 b (movedOf w room s (bothRow true a b) .here) (movedOf w room s (bothRow true a b) .there)
+pub moved-bare : (w room s a b : ℕ) → bare (goneTo w room s a b) ≡ rowAt 0 b (goneTo w room s a b .here) (goneTo w room s a b .there)
 unfolding movedOf
 moved-bare w room s a b = either (leb room (s - a + keepOf w a b)) _ _ refl refl
   where
@@ -126,12 +125,8 @@ movable-bare w r m h = record {
   bare = h .bare;
 }
 
-length-bare : (rs : List Row) → length (map bare rs) ≡ length rs
-length-bare [] = refl
-length-bare (r ∷ rs) = ap suc (length-bare rs)
-
 pub ready-bare : (w : ℕ) (rs : List Row) → Ready w rs → Ready w (map bare rs)
 ready-bare w rs ready i l m =
     let e = getD-bare rs i in
     let m' : getD rs i noRow .movable ≡ true = rw e at m in
-    rw e (movable-bare w (getD rs i noRow) m' (ready i (rw (length-bare rs) at l) m'))
+    rw e (movable-bare w (getD rs i noRow) m' (ready i (rw length-map at l) m'))

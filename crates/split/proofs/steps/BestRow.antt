@@ -12,7 +12,7 @@ use lib.ListN.{length}
 use Rattle.rows.specs.Upto.{at}
 use Rattle.rows.proofs.Upto.{upto-length, upto-more}
 use Rattle.split.specs.Steps.{ahead, better, nextFrom, nextOf}
-use Rattle.split.specs.Columns.{rowAt, rowsIn, bestOf, betterOf}
+use Rattle.split.specs.Columns.{rowAt, rowIn, rowsIn, bestOf, betterOf}
 use Rattle.split.specs.Rows.{Row, Next, Nobody, At}
 
 next-more : (x : Next) (k : ℕ) (rs : List Row) (r : Row) → nextFrom x k (rs ++ (r ∷ [])) ≡ better (nextFrom x k rs) (k + length rs) r
@@ -43,5 +43,5 @@ better-row n (At k s) i a b h t = go (ltb 0 a) refl (ahead (rowAt a b h t) s) re
 pub best-more : (n : ℕ) (near far here there : List ℕ) (i : ℕ) → betterOf (bestOf n (nextOf (rowsIn i near far here there))) i (at near i) (at far i)
     ≡ bestOf n (nextOf (rowsIn (i + 1) near far here there))
 best-more n near far here there i =
-    rw (upto-more i (λ k. rowAt (at near k) (at far k) (at here k) (at there k)), next-more Nobody 0 (rowsIn i near far here there) (rowAt (at near i) (at far i) (at here i) (at there i)), upto-length i (λ k. rowAt (at near k) (at far k) (at here k) (at there k)), zero-add)
+    rw (upto-more i (rowIn near far here there), next-more Nobody 0 (rowsIn i near far here there) (rowIn near far here there i), upto-length i (rowIn near far here there), zero-add)
     (better-row n (nextOf (rowsIn i near far here there)) i (at near i) (at far i) (at here i) (at there i))

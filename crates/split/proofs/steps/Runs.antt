@@ -8,10 +8,11 @@ use native.Mathlib.Omega.{arith}
 use lib.ListN.{length, set, drop, length-set}
 use lib.Seq.{getD-set-same, getD-set-other, drop-set-lt}
 use Rattle.rows.specs.Upto.{at}
+use Rattle.rows.specs.Lists.{sumOf}
 use Rattle.rows.proofs.Upto.{upto-length, upto-at, upto-set}
 use Rattle.split.specs.Home.{bothRow}
 use Rattle.split.specs.Steps.{hereSum, thereSum, nextOf, movedOf, stepsOf}
-use Rattle.split.specs.Columns.{rowAt, rowsIn, bare, Found, Advanced, Stepped, sumMost, noRow, Movable, Ready, Asks}
+use Rattle.split.specs.Columns.{rowAt, rowsIn, bare, Found, Advanced, Stepped, sumMost, noRow, Movable, Ready, Asks, rowIn, bestOf}
 use Rattle.split.specs.Rows.{Row, Next, Nobody, At}
 use Rattle.split.specs.declared.steps.Best.{Best}
 use Rattle.split.specs.declared.Sums.{Sums}
@@ -50,8 +51,14 @@ pub record Runs (n w room : ℕ) (near₀ far here₀ there₀ near here there :
 
 module _ {n w room : ℕ} {near₀ far here₀ there₀ near here there : List ℕ} {sums : Sums} {left : ℕ}
     (runs : Runs n w room near₀ far here₀ there₀ near here there sums left) where
+  abbrev rows : List Row
+  rows = rowsIn n near far here there
+
+  abbrev Ended : Type 0
+  Ended = Stepped n w room near₀ far here₀ there₀ near here there sums
+
   -- The end, where the steps that are left change nothing.
-  ends : stepsOf left w room (rowsIn n near far here there) ≡ rowsIn n near far here there → Stepped n w room near₀ far here₀ there₀ near here there sums
+  ends : stepsOf left w room rows ≡ rows → Ended
   ends e = record {
     rows = sym (rows-bare n near far here there) ∙ rw e at (runs .alike);
     sum-here = runs .sum-here;
@@ -60,53 +67,61 @@ module _ {n w room : ℕ} {near₀ far here₀ there₀ near here there : List �
     rest-there = runs .rest-there;
   }
 
-  pub ends-last : left ≡ 0 → Stepped n w room near₀ far here₀ there₀ near here there sums
+  pub ends-last : left ≡ 0 → Ended
   ends-last e = ends (steps-last left w room _ e)
 
-  pub ends-within : sums .here ≤ room → Stepped n w room near₀ far here₀ there₀ near here there sums
+  pub ends-within : sums .here ≤ room → Ended
   ends-within h = ends (steps-within left w room _ (omega (arith, runs .sum-here)))
 
   module _ {best : Best} (found : Found n near far best) where
-    next : IsNext (rowsIn n near far here there) (nextOf (rowsIn n near far here there))
-    next = next-law w (rowsIn n near far here there) (runs .ready)
+    -- What was found, by what comes next.
+    found-at : {x : Next} → nextOf rows ≡ x → best .at ≡ bestOf n x .at
+    found-at e = ap (λ (b : Best). b .at) (rw e at (found .is here there))
 
-    pub ends-nobody : best .at ≡ n → Stepped n w room near₀ far here₀ there₀ near here there sums
-    ends-nobody e = ends (steps-nobody left w room _ (go (nextOf (rowsIn n near far here there)) refl next))
+    next : IsNext rows (nextOf rows)
+    next = next-law w rows (runs .ready)
+
+    next-within : {k : ℕ} {r : Row} → Leads rows k r → k < n
+    next-within leads = omega (arith, leads .within, upto-length n (rowIn near far here there))
+
+    pub ends-nobody : best .at ≡ n → Ended
+    ends-nobody e = ends (steps-nobody left w room _ (go (nextOf rows) refl next))
       where
-        go : (x : Next) → nextOf (rowsIn n near far here there) ≡ x → IsNext (rowsIn n near far here there) (nextOf (rowsIn n near far here there)) → x ≡ Nobody
+        go : (x : Next) → nextOf rows ≡ x → IsNext rows (nextOf rows) → x ≡ Nobody
         go Nobody p q = refl
-        go (At k r) p q =
-            let leads : Leads (rowsIn n near far here there) k r = rw p at q in
-            let same : best .at ≡ k = ap (λ (b : Best). b .at) (rw p at (found .is here there)) in
-            absurd (omega (arith, leads .within, upto-length n (λ i. rowAt (at near i) (at far i) (at here i) (at there i))))
+        go (At k r) p q = absurd (omega (arith, found-at p, next-within (rw p at q)))
 
     -- A turn moves the row that was found.
     module _ (over : room < sums .here) (some : best .at ≡ n → ⊥) where
-      is-next : nextOf (rowsIn n near far here there) ≡ At (best .at) (bothRow true (at near (best .at)) (at far (best .at)))
-      is-next = go (nextOf (rowsIn n near far here there)) refl next
-        where
-          go : (x : Next) → nextOf (rowsIn n near far here there) ≡ x → IsNext (rowsIn n near far here there) (nextOf (rowsIn n near far here there))
-              → x ≡ At (best .at) (bothRow true (at near (best .at)) (at far (best .at)))
-          go Nobody p q = absurd (some (ap (λ (b : Best). b .at) (rw p at (found .is here there))))
-          go (At k r) p q =
-              let leads : Leads (rowsIn n near far here there) k r = rw p at q in
-              let same : best .at ≡ k = ap (λ (b : Best). b .at) (rw p at (found .is here there)) in
-              let l : k < n = omega (arith, leads .within, upto-length n (λ i. rowAt (at near i) (at far i) (at here i) (at there i))) in
-              let row : r ≡ rowAt (at near k) (at far k) (at here k) (at there k) = sym (leads .is) ∙ upto-at n _ noRow k l in
-              let home : r ≡ bothRow true (r .near) (r .far) = home-row w r (leads .movable) (rw (leads .is) at (runs .ready k (leads .within) (rw (leads .is) (leads .movable)))) in
-              rw (same, ← ap (λ (x : Row). x .near) row, ← ap (λ (x : Row). x .far) row, ← home)
+      abbrev row : Row
+      row = bothRow true (at near (best .at)) (at far (best .at))
 
-      turn : Turn w room (sums .here) (rowsIn n near far here there) (best .at) (bothRow true (at near (best .at)) (at far (best .at)))
+      is-next : nextOf rows ≡ At (best .at) row
+      is-next = go (nextOf rows) refl next
+        where
+          go : (x : Next) → nextOf rows ≡ x → IsNext rows (nextOf rows) → x ≡ At (best .at) row
+          go Nobody p q = absurd (some (found-at p))
+          go (At k r) p q =
+              let leads : Leads rows k r = rw p at q in
+              let is : r ≡ rowIn near far here there k = sym (leads .is) ∙ upto-at n _ noRow k (next-within leads) in
+              let home : r ≡ bothRow true (r .near) (r .far) = home-row w r (leads .movable) (rw (leads .is) at (runs .ready k (leads .within) (rw (leads .is) (leads .movable)))) in
+              rw (found-at p, ← ap (λ (x : Row). x .near) is, ← ap (λ (x : Row). x .far) is, ← home)
+
+      turn : Turn w room (sums .here) rows (best .at) row
       turn = turn-law w room _ _ _ (sums .here) (runs .ready) (runs .sum-here) (runs .small-here) over is-next
 
       pub found-within : best .at < n
-      found-within = omega (arith, turn .within, upto-length n (λ i. rowAt (at near i) (at far i) (at here i) (at there i)))
+      found-within = omega (arith, turn .within, upto-length n (rowIn near far here there))
 
-      pub found-asks : Asks w room (sums .here) (bothRow true (at near (best .at)) (at far (best .at)))
+      pub found-asks : Asks w room (sums .here) row
       found-asks = turn .asks
 
       abbrev to : Row
-      to = movedOf w room (sums .here) (bothRow true (at near (best .at)) (at far (best .at)))
+      to = movedOf w room (sums .here) row
+
+      -- A sum over the rows, where the row that was found has moved.
+      moved-sum : (f : Row → ℕ) → sumOf f (set rows (best .at) (bare to)) + f row ≡ sumOf f rows + f (bare to)
+      moved-sum f = rw (turn .is) at (sum-set f rows (best .at) (bare to) (turn .within))
 
       pub goes-on : {near' here' there' : List ℕ} {after : Sums} (m : ℕ) → left ≡ suc m → n ≤ length near → n ≤ length here → n ≤ length there
           → Advanced w room sums (at far (best .at)) (best .at) near here there near' here' there' after
@@ -117,18 +132,18 @@ module _ {n w room : ℕ} {near₀ far here₀ there₀ near here there : List �
         size-there = ap length (adv .set-there) ∙ simp length-set (runs .size-there);
         rest-here = ap (drop n) (adv .set-here) ∙ drop-set-lt n here (best .at) (to .here) found-within ∙ runs .rest-here;
         rest-there = ap (drop n) (adv .set-there) ∙ drop-set-lt n there (best .at) (to .there) found-within ∙ runs .rest-there;
-        ready = rw rows (turn .ready (bare to) (moved-still w room (sums .here) (bothRow true (at near (best .at)) (at far (best .at)))));
-        sum-here = omega (arith, adv .sum-here, rw (← rows, turn .is) at (sum-set (λ (r : Row). r .here) (rowsIn n near far here there) (best .at) (bare to) (turn .within)), runs .sum-here);
-        sum-there = omega (arith, adv .sum-there, rw (← rows, turn .is) at (sum-set (λ (r : Row). r .there) (rowsIn n near far here there) (best .at) (bare to) (turn .within)), runs .sum-there);
-        small-here = omega (arith, adv .sum-here, runs .small-here, moved-fits w room (sums .here) (bothRow true (at near (best .at)) (at far (best .at))) (turn .asks .row) (turn .asks .among) over .0);
+        ready = rw after-rows (turn .ready (bare to) (moved-still w room (sums .here) row));
+        sum-here = omega (arith, adv .sum-here, rw (← after-rows) at (moved-sum (λ (r : Row). r .here)), runs .sum-here);
+        sum-there = omega (arith, adv .sum-there, rw (← after-rows) at (moved-sum (λ (r : Row). r .there)), runs .sum-there);
+        small-here = omega (arith, adv .sum-here, runs .small-here, moved-fits w room (sums .here) row (turn .asks .row) (turn .asks .among) over .0);
         small-there = omega (arith, adv .sum-there, adv .small, runs .small-there);
-        alike = alike-steps m w room (rowsIn n near' far here' there') (set (rowsIn n near far here there) (best .at) to) same ∙ rw (turn .moves left m e) (runs .alike);
+        alike = alike-steps m w room (rowsIn n near' far here' there') (set rows (best .at) to) same ∙ rw (turn .moves left m e) (runs .alike);
       }
         where
-          rows : rowsIn n near' far here' there' ≡ set (rowsIn n near far here there) (best .at) (bare to)
-          rows =
+          after-rows : rowsIn n near' far here' there' ≡ set rows (best .at) (bare to)
+          after-rows =
               rw (adv .set-near, adv .set-here, adv .set-there, moved-bare w room (sums .here) (at near (best .at)) (at far (best .at)))
               (rows-set n near far here there (best .at) (to .here) (to .there) found-within ln lh lt)
 
-          same : Alike (rowsIn n near' far here' there') (set (rowsIn n near far here there) (best .at) to)
-          same = rw (rows, bare-set (rowsIn n near far here there) (best .at) (bare to), bare-set (rowsIn n near far here there) (best .at) to, bare-bare to)
+          same : Alike (rowsIn n near' far here' there') (set rows (best .at) to)
+          same = rw (after-rows, bare-set rows (best .at) (bare to), bare-set rows (best .at) to, bare-bare to)

@@ -2,37 +2,30 @@
 -- number holds. Assumes nothing.
 use mathlib.Core.Path.{_≡_, sym, _∙_}
 use mathlib.Core.List.{List}
-use Prim.Native.Nat.{ℕ, _≤_}
+use Prim.Native.Nat.{ℕ, _*_, _≤_}
 use native.Mathlib.Omega.{arith}
 use borrow.Author.Needs.{needs}
 use lib.ListN.{length, take}
 use Rattle.model.specs.Board.{roomOf}
 use Rattle.model.specs.Columns.{jobsIn}
-use Rattle.model.specs.Limits.{jobsMost}
+use Rattle.model.specs.Limits.{windowMost, coresMost, jobsMost}
 use Rattle.model.specs.Refusal.{given}
 use Rattle.model.specs.declared.Kind.{Kind}
 use Rattle.model.specs.declared.Kind.the-variants.{First, Second}
 use Rattle.model.specs.declared.Board.{Board}
 use Rattle.model.specs.declared.Job.{Job}
 use Rattle.model.proofs.RoomLaws.{room-limit}
-use Rattle.model.proofs.costs.Reads as costs-reads
-use Rattle.model.proofs.room.Reads as room-reads
 use Rattle.legal.specs.Legal.{legalOf}
 use Rattle.legal.specs.Lawful.{Lawful}
 use Rattle.legal.proofs.Lawful.{legal-lawful}
-use Rattle.legal.proofs.check.Reads as check-reads
 use Rattle.split.specs.Shares.{balanceOf}
 use Rattle.split.proofs.home.Homes.{home-there}
 use Rattle.split.proofs.Seen.{balance-costs}
 use Rattle.split.proofs.balance.Signed.{kept-sub}
 use Rattle.split.proofs.balance.starting_balance.Statement.{statement}
 use Rattle.split.proofs.balance.starting_balance.Tie as tie
-use Rattle.split.proofs.balance.starting_balance.Reads as reads
-use Rattle.split.proofs.balance.starting_balance.Lts as lts
-use Rattle.split.proofs.home.home_ticks.Reads as home-ticks-reads
-use Rattle.split.proofs.balance.less.Reads as less-reads
 
-room-most : {board : Board} {n : ℕ} {js : List Job} (k : Kind) → Lawful board n js → roomOf board k ≤ 524280
+room-most : {board : Board} {n : ℕ} {js : List Job} (k : Kind) → Lawful board n js → roomOf board k ≤ coresMost * windowMost
 room-most {board} First l = room-limit board First (l .first-most) (l .window-most)
 room-most {board} Second l = room-limit board Second (l .second-most) (l .window-most)
 
@@ -51,51 +44,21 @@ enum-known-refusal c = search needs
 enum-told : tie.Need-enum-told
 enum-told c = search needs
 
--- after the checks: the balance of the columns is that of the jobs
-abbrev At-check : Type 0
-At-check =
-    lts.After-check (
-      costs-reads.Asked,
-      costs-reads.Learnt,
-      check-reads.Asked,
-      check-reads.Learnt,
-      home-ticks-reads.Asked,
-      home-ticks-reads.Learnt,
-      room-reads.Asked,
-      room-reads.Learnt,
-      less-reads.Asked,
-      less-reads.Learnt,
-    ) reads.Pre reads.Post
-
-abbrev written : At-check → List Job
+-- After the checks: the jobs of the two columns, and that their balance is that of the jobs.
+abbrev written : tie.After-check → List Job
 written c = jobsIn (c .before .before .before .before .before .args .n) (c .before .before .before .before .costs .result) (c .before .before .before .costs2 .result)
 
-same : (c : At-check) → let a = c .before .before .before .before .before .args in balanceOf (a .board) (a .n) (written c) ≡ balanceOf (a .board) (a .n) (take (a .n) (a .jobs))
+same : (c : tie.After-check) → let a = c .before .before .before .before .before .args in balanceOf (a .board) (a .n) (written c) ≡ balanceOf (a .board) (a .n) (take (a .n) (a .jobs))
 same c =
     let a = c .before .before .before .before .before .args in
     let full : length (a .jobs) ≡ jobsMost = search needs in
     rw (c .before .before .before .before .costs .ensures, c .before .before .before .costs2 .ensures) (balance-costs (a .board) (a .n) (a .jobs) full)
 
--- where they have passed
-abbrev At-legal : Type 0
-At-legal =
-    lts.After-enum-told (
-      costs-reads.Asked,
-      costs-reads.Learnt,
-      check-reads.Asked,
-      check-reads.Learnt,
-      home-ticks-reads.Asked,
-      home-ticks-reads.Learnt,
-      room-reads.Asked,
-      room-reads.Learnt,
-      less-reads.Asked,
-      less-reads.Learnt,
-    ) reads.Pre reads.Post
-
-legal : (c : At-legal) → let a = c .before .before .before .before .before .before .before .args in legalOf (a .board) (a .n) (written (c .before .before)) ≡ given tt
+-- Where they have passed.
+legal : (c : tie.After-enum-told) → let a = c .before .before .before .before .before .before .before .args in legalOf (a .board) (a .n) (written (c .before .before)) ≡ given tt
 legal c = sym (rw (c .enum-told .given .1) at (c .before .before .check .ensures))
 
-lawful : (c : At-legal) → let a = c .before .before .before .before .before .before .before .args in Lawful (a .board) (a .n) (written (c .before .before))
+lawful : (c : tie.After-enum-told) → let a = c .before .before .before .before .before .before .before .args in Lawful (a .board) (a .n) (written (c .before .before))
 lawful c = legal-lawful _ _ _ (legal c)
 
 home-ticks-requires : tie.Need-home-ticks-requires

@@ -1,10 +1,10 @@
 -- `split::steps::far_end` meets its contract: the quotient that is rounded up is at most the near cost, and so at most the window. Assumes nothing.
-use Prim.Native.Nat.{_-_}
+use Prim.Native.Nat.{_-_, _*_, _≤_}
 use native.Mathlib.Omega.{arith}
 use borrow.Author.Tests.{le-leb, lt-leb}
 use borrow.Author.Needs.{needs}
 use Rattle.model.proofs.Product.{product, product-fits}
-use Rattle.split.specs.Home.{keepOf, giveOf}
+use Rattle.split.specs.Home.{ceil, keepOf, giveOf}
 use Rattle.split.proofs.steps.Number.{keep-most}
 use Rattle.split.proofs.steps.far_end.Statement.{statement}
 use Rattle.split.proofs.steps.far_end.Tie as tie
@@ -37,11 +37,15 @@ add-keep c = omega (arith, product {a = c .before .args .near} {b = c .before .a
 div-keep : tie.Need-div-keep
 div-keep c = search needs
 
+-- A stretched job keeps at most its cost at home.
+most : (c : tie.Else1) → let a = c .before .args in ceil (a .near * (a .far - a .w)) (a .far - a .near) ≤ a .near
+most c = keep-most (c .before .args .near) (c .before .args .far) (c .before .args .w) (search needs) (search needs)
+
 cast-keep-2 : tie.Need-cast-keep-2
-cast-keep-2 c = omega (arith, keep-most (c .before .args .near) (c .before .args .far) (c .before .args .w) (search needs) (search needs))
+cast-keep-2 c = omega (arith, most c)
 
 sub-t7 : tie.Need-sub-t7
-sub-t7 c = omega (arith, keep-most (c .before .args .near) (c .before .args .far) (c .before .args .w) (search needs) (search needs))
+sub-t7 c = omega (arith, most c)
 
 returns-2 : tie.Need-returns-2
 unfolding keepOf giveOf

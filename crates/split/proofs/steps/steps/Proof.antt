@@ -1,7 +1,7 @@
 -- `split::steps::steps` meets its contract. The invariant: the steps that are left, on the rows of the columns as they are now, end where all steps
 -- end (Runs). Assumes nothing.
 use mathlib.Core.Path.{refl}
-use Prim.Native.Nat.{_-_}
+use Prim.Native.Nat.{_-_, _<_}
 use native.Mathlib.Omega.{arith}
 use borrow.Author.Needs.{needs}
 use Rattle.split.proofs.steps.steps.Statement.{statement}
@@ -59,24 +59,21 @@ same-length-6 c = search needs
 returns-2 : tie.Need-returns-2 Inv-loop μ-loop
 returns-2 c = ends-nobody (c .before .before .before .before .before .before .loop .inv) (c .before .next-of .ensures) (c .if2 .taken)
 
+-- A row was found: it is one of the first n.
+within : (c : tie.Else2 Inv-loop μ-loop) → c .before .next-of .result .at < c .before .before .before .before .before .before .before .before .before .before .args .n
+within c = found-within (c .before .before .before .before .before .before .loop .inv) (c .before .next-of .ensures) (c .before .before .before .if1 .left) (c .if2 .left)
+
 mul-advance : tie.Need-mul-advance Inv-loop μ-loop
-mul-advance c =
-    let h = found-within (c .before .before .before .before .before .before .loop .inv) (c .before .next-of .ensures) (c .before .before .before .if1 .left) (c .if2 .left) in
-    search needs
+mul-advance c = let h = within c in search needs
 
 element-copy-out-advance : tie.Need-element-copy-out-advance Inv-loop μ-loop
-element-copy-out-advance c =
-    let h = found-within (c .before .before .before .before .before .before .loop .inv) (c .before .next-of .ensures) (c .before .before .before .if1 .left) (c .if2 .left) in
-    search needs
+element-copy-out-advance c = let h = within c in search needs
 
 advance-requires : tie.Need-advance-requires Inv-loop μ-loop
 advance-requires c κs =
-    let run = c .before .before .before .before .before .before .before .before .before .before .loop .inv in
-    let next = c .before .before .before .before .before .next-of .ensures in
-    let over = c .before .before .before .before .before .before .before .if1 .left in
-    let some = c .before .before .before .before .if2 .left in
-    let h = found-within run next over some in
-    ((omega arith, omega arith, omega arith, omega arith), (found-asks run next over some, omega arith))
+    let e = c .before .before .before .before in
+    let h = within e in
+    ((omega arith, omega arith, omega arith, omega arith), (found-asks (e .before .before .before .before .before .before .loop .inv) (e .before .next-of .ensures) (e .before .before .before .if1 .left) (e .if2 .left), omega arith))
 
 sub-left : tie.Need-sub-left Inv-loop μ-loop
 sub-left c = search needs
@@ -86,9 +83,10 @@ loop-less c = search needs
 
 loop-again : tie.Need-loop-again Inv-loop μ-loop
 loop-again c =
-    let x = c .before .before .before .before .before .before .before .before .before .before .before .before .before .before .before .before .before .loop in
-    goes-on (x .inv) (c .before .before .before .before .before .before .before .before .before .before .before .before .next-of .ensures) (c .before .before .before .before .before .before .before .before .before .before .before .before .before .before .if1 .left) (c .before .before .before .before .before .before .before .before .before .before .before .if2 .left) (x .left - 1)
-    (omega (arith, c .before .before .before .before .before .before .before .before .before .before .before .before .before .before .before .before .loop-test .taken)) (omega arith) (omega arith) (omega arith) (c .before .before .before .before .before .before .advance .ensures)
+    let e = c .before .before .before .before .before .before .before .before .before .before .before in
+    let x = e .before .before .before .before .before .before .loop in
+    goes-on (x .inv) (e .before .next-of .ensures) (e .before .before .before .if1 .left) (e .if2 .left) (x .left - 1)
+    (omega (arith, e .before .before .before .before .before .loop-test .taken)) (omega arith) (omega arith) (omega arith) (c .before .before .before .before .before .before .advance .ensures)
 
 same-length-7 : tie.Need-same-length-7 Inv-loop μ-loop
 same-length-7 c = search needs
