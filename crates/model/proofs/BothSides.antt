@@ -315,6 +315,20 @@ one-share {w} {j = j} s = go (s .shares) (s .done)
     go (t ∷ []) d = (t, d .0, omega arith, omega arith)
     go (t ∷ u ∷ ss) d = absurd (d .1)
 
+-- The two shares of a set of two jobs, for the crates above.
+pub two-shares : {w room1 room2 : ℕ} {i j : Job} (s : Split w room1 room2 (i ∷ j ∷ []))
+    → (a : Ticks) × (b : Ticks) × DoneBy w (s .whole) i a × DoneBy w (s .whole) j b × (ticksOf First (s .shares) ≡ a .first + b .first)
+    × (ticksOf Second (s .shares) ≡ a .second + b .second)
+two-shares {w} {i = i} {j = j} s = go (s .shares) (s .done)
+  where
+    go : (ss : List Ticks) → AllDone w (s .whole) (i ∷ j ∷ []) ss
+        → (a : Ticks) × (b : Ticks) × DoneBy w (s .whole) i a × DoneBy w (s .whole) j b × (ticksOf First ss ≡ a .first + b .first)
+        × (ticksOf Second ss ≡ a .second + b .second)
+    go [] d = absurd d
+    go (a ∷ []) d = absurd (d .1)
+    go (a ∷ b ∷ []) d = (a, b, d .0, d .1 .0, omega arith, omega arith)
+    go (a ∷ b ∷ c ∷ ss) d = absurd (d .1 .1)
+
 -- With no parts to a tick, the empty share would do any work.
 pub split-of-nothing-not : Split 10 10 10 (F 11 ∷ []) → ⊥
 split-of-nothing-not s = omega (arith, one-share s)

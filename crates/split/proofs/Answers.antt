@@ -1,232 +1,55 @@
--- The answer of the code over columns: the jobs at home as the columns of the kind that is looked from, what the steps make of them, and which
--- of the answers the definition of the split gives. Assumes nothing.
-use mathlib.Core.Path.{_≡_, refl, sym, ap, _∙_}
-use mathlib.Core.Bool.{Bool, true, false, cond, _&&_}
-use mathlib.Core.List.{List, [], _∷_, _++_, map, map-map}
-use Prim.Native.Nat.{ℕ, zero, suc, _≤_, _<_}
+-- The answers of the code: what a refusal and shares say, and which of them the definition of the split gives. Assumes nothing.
+use mathlib.Core.Path.{_≡_, refl, _∙_}
+use mathlib.Core.Bool.{true}
+use mathlib.Core.List.{List}
+use Prim.Native.Nat.{ℕ, zero, suc, _-_, _≤_, _<_}
 use native.Mathlib.Omega.{arith}
-use lib.Dec.{leb, ltb, eqb}
-use lib.ListN.{length, getD, drop}
-use lib.Seq.{drop-at}
-use borrow.Author.Tests.{leb-true, leb-false, ne-eqb, le-ltb, lt-ltb}
-use Rattle.model.specs.Board.{on}
-use Rattle.rows.specs.Lists.{All}
-use Rattle.rows.specs.Upto.{upto, at}
-use Rattle.rows.proofs.Upto.{upto-length, upto-at, upto-same, upto-map, front}
-use Rattle.model.specs.Refusal.{given, refused}
+use borrow.Author.Tests.{le-ltb, lt-ltb}
+use lib.ListN.{drop, replicate}
+use Rattle.model.specs.Limits.{jobsMost}
+use Rattle.model.specs.Refusal.{Answer, given, refused, saysRefusal}
 use Rattle.model.specs.Split.{Ticks}
-use Rattle.model.specs.declared.Kind.{Kind}
 use Rattle.model.specs.declared.Kind.the-variants.{First, Second}
 use Rattle.model.specs.declared.Job.{Job}
-use Rattle.model.specs.Columns.{jobAt, jobsIn, sharesIn}
-use Rattle.model.proofs.Columns.{Case, on-first, on-second, on-both, case}
-use Rattle.legal.specs.Lawful.{LegalJob}
-use Rattle.split.specs.Home.{bothRow, atHome}
-use Rattle.split.specs.Steps.{hereSum, thereSum, noRow, stepsOf, Movable, Ready, Summed}
-use Rattle.split.specs.Shares.{shareOf, sharesSeen, homeRows, settled, relieved, splitOf}
-use Rattle.split.specs.Columns.{rowAt, rowsIn, bare, markOf, marksIn, says, Stepped, GoneHome, Relieved, Answered}
-use Rattle.split.specs.Rows.{Row}
-use Rattle.split.specs.declared.Sums.{Sums}
-use Rattle.split.proofs.Homes.{home-ready, home-there, home-here}
-use Rattle.split.proofs.Answered.{settled-within, split-both, split-first, split-second, split-home}
-use Rattle.split.proofs.Columns.{rows-bare, bare-here, bare-there, Alike, alike-steps}
+use Rattle.model.specs.declared.Refusal.{Refusal}
+use Rattle.split.specs.Shares.{sharesSeen, homeRows, homeTicks, relieved, byOver, splitOf, Answers}
+use Rattle.split.specs.Columns.{Answered, none}
+use Rattle.split.specs.declared.Outcome.the-variants.{Shares}
 
--- ---- what does not ask for a near cost
-shares-bare : (k : Kind) (rs : List Row) → sharesSeen k (map bare rs) ≡ sharesSeen k rs
-shares-bare k rs = map-map (shareOf k) bare rs
+pub answers-none : (refusal : Refusal) {answer : Answer (List Ticks)} → saysRefusal refusal ≡ answer → Answers answer (none refusal)
+answers-none refusal e = record { says = e; few = omega arith; rest1 = refl; rest2 = refl }
 
-settled-bare : (k : Kind) (room away : ℕ) (rs : List Row) → settled k room away (map bare rs) ≡ settled k room away rs
-unfolding settled
-settled-bare k room away rs = rw (bare-here rs, bare-there rs, shares-bare k rs)
+-- What is left of zeros.
+zeros-left : (n m : ℕ) → drop {A = ℕ} n (replicate m 0) ≡ replicate (m - n) 0
+zeros-left zero m = let e : m - 0 ≡ m = omega arith in rw e
+zeros-left (suc n) zero = let e : 0 - suc n ≡ 0 = omega arith in rw e
+zeros-left (suc n) (suc m) = let e : suc m - suc n ≡ m - n = omega arith in rw e (zeros-left n m)
 
-settled-alike : (k : Kind) (room away : ℕ) (rs ss : List Row) → Alike rs ss → settled k room away rs ≡ settled k room away ss
-settled-alike k room away rs ss e = sym (settled-bare k room away rs) ∙ ap (settled k room away) e ∙ settled-bare k room away ss
-
-getD-bare : (rs : List Row) (i : ℕ) → getD (map bare rs) i noRow ≡ bare (getD rs i noRow)
-getD-bare [] i = refl
-getD-bare (r ∷ rs) zero = refl
-getD-bare (r ∷ rs) (suc i) = getD-bare rs i
-
-movable-bare : (w : ℕ) (r : Row) → r .movable ≡ true → Movable w r → Movable w (bare r)
-movable-bare w r m h = record {
-  some = rw m (h .some);
-  least = rw m (h .least);
-  fits = rw m (h .fits);
-  whole = rw m (h .whole);
-  bare = h .bare;
+-- Shares that were put into columns of zeros.
+pub answers-shares : (n : ℕ) (s1 s2 : List ℕ) {answer : Answer (List Ticks)} → n ≤ jobsMost
+    → Answered answer n (replicate jobsMost 0) (replicate jobsMost 0) s1 s2 true
+    → Answers answer (record { outcome = Shares n; first = s1; second = s2 })
+answers-shares n s1 s2 few x = record {
+  says = x .is;
+  few = few;
+  rest1 = x .rest1 ∙ zeros-left n jobsMost;
+  rest2 = x .rest2 ∙ zeros-left n jobsMost;
 }
 
-length-bare : (rs : List Row) → length (map bare rs) ≡ length rs
-length-bare [] = refl
-length-bare (r ∷ rs) = ap suc (length-bare rs)
+-- Which answer the definition gives, by which kinds are over at home.
+module _ (w room1 room2 : ℕ) (js : List Job) where
+  pub split-both : room1 < homeTicks First js → room2 < homeTicks Second js → refused 6 0 ≡ splitOf w room1 room2 js
+  unfolding byOver
+  split-both h t = rw (lt-ltb _ _ h, lt-ltb _ _ t)
 
-ready-bare : (w : ℕ) (rs : List Row) → Ready w rs → Ready w (map bare rs)
-ready-bare w rs ready i l m =
-    let e = getD-bare rs i in
-    let m' : getD rs i noRow .movable ≡ true = rw e at m in
-    rw e (movable-bare w (getD rs i noRow) m' (ready i (rw (length-bare rs) at l) m'))
+  pub split-first : room1 < homeTicks First js → homeTicks Second js ≤ room2 → relieved First w room1 room2 js ≡ splitOf w room1 room2 js
+  unfolding byOver
+  split-first h t = rw (lt-ltb _ _ h, le-ltb _ _ t)
 
--- ---- a job at home, as what the columns have of it
-mark-zero : (b : ℕ) → markOf b 0 ≡ 0
-mark-zero b = go (eqb b 0)
-  where
-    go : (t : Bool) → cond {A = ℕ} t 0 0 ≡ 0
-    go true = refl
-    go false = refl
+  pub split-second : homeTicks First js ≤ room1 → room2 < homeTicks Second js → relieved Second w room2 room1 js ≡ splitOf w room1 room2 js
+  unfolding byOver
+  split-second h t = rw (le-ltb _ _ h, lt-ltb _ _ t)
 
--- Its row from a kind, by its ticks as the first kind sees them.
-seen : (k : Kind) (a b : ℕ) (j : Job) → Case a b j → rowAt (markOf (on k b a) (on k (atHome First j .here) (atHome First j .there))) (on k b a)
-    (on k (atHome First j .here) (atHome First j .there)) (on k (atHome First j .there) (atHome First j .here)) ≡ bare (atHome k j)
-unfolding atHome
-seen First a b j (on-first z) = rw z
-seen Second a b j (on-first z) = rw (mark-zero a)
-seen First a b j (on-second z) = rw (mark-zero b)
-seen Second a b j (on-second z) = rw z
-seen First a b j (on-both pa pb) = go (leb a b)
-  where
-    go : (t : Bool) → rowAt (markOf b (bothRow t a b .here)) b (bothRow t a b .here) (bothRow t a b .there) ≡ bare (bothRow t a b)
-    go true = rw (ne-eqb b 0 (λ z. omega arith), lt-ltb 0 a pa)
-    go false = rw (mark-zero b)
-seen Second a b j (on-both pa pb) = go (leb a b) refl
-  where
-    go : (t : Bool) → leb a b ≡ t → rowAt (markOf a (bothRow t a b .there)) a (bothRow t a b .there) (bothRow t a b .here) ≡ bare (bothRow (ltb b a) b a)
-    go true e = rw (le-ltb b a (leb-true a b e), mark-zero a)
-    go false e = rw (lt-ltb b a (leb-false a b e), ne-eqb a 0 (λ z. omega arith), lt-ltb 0 b pb)
-
--- ---- the jobs at home
-module _ {n : ℕ} {c1 c2 s1₀ s2₀ s1 s2 : List ℕ} {r : Sums} (gone : GoneHome n c1 c2 s1₀ s2₀ s1 s2 r) where
-  abbrev home : Kind → ℕ → Row
-  home k i = atHome k (jobAt (at c1 i) (at c2 i))
-
-  first-at : (i : ℕ) → i < n → at s1 i ≡ home First i .here
-  first-at i l = rw (gone .first) (front n (λ k. home First k .here) (drop n s1₀) i l)
-
-  second-at : (i : ℕ) → i < n → at s2 i ≡ home First i .there
-  second-at i l = rw (gone .second) (front n (λ k. home First k .there) (drop n s2₀) i l)
-
-  rest-first : drop n s1 ≡ drop n s1₀
-  rest-first = rw (gone .first) (drop-at (upto n (λ k. home First k .here)) (drop n s1₀) n (upto-length n (λ k. home First k .here)))
-
-  rest-second : drop n s2 ≡ drop n s2₀
-  rest-second = rw (gone .second) (drop-at (upto n (λ k. home First k .there)) (drop n s2₀) n (upto-length n (λ k. home First k .there)))
-
-  -- The rows of the columns, seen from a kind.
-  home-rows : (k : Kind) → rowsIn n (marksIn n (on k c2 c1) (on k s1 s2)) (on k c2 c1) (on k s1 s2) (on k s2 s1) ≡ map bare (homeRows k (jobsIn n c1 c2))
-  home-rows k =
-      upto-same n _ _ (row k) ∙ sym (upto-map bare n (home k)) ∙ ap (map bare) (sym (upto-map (atHome k) n (λ i. jobAt (at c1 i) (at c2 i))))
-    where
-      row : (h : Kind) (i : ℕ) → i < n →
-          rowAt (at (marksIn n (on h c2 c1) (on h s1 s2)) i) (at (on h c2 c1) i) (at (on h s1 s2) i) (at (on h s2 s1) i) ≡ bare (home h i)
-      row First i l =
-          rw (upto-at n (λ j. markOf (at c2 j) (at s1 j)) 0 i l, first-at i l, second-at i l) (seen First (at c1 i) (at c2 i) _ (case (at c1 i) (at c2 i)))
-      row Second i l =
-          rw (upto-at n (λ j. markOf (at c1 j) (at s2 j)) 0 i l, first-at i l, second-at i l) (seen Second (at c1 i) (at c2 i) _ (case (at c1 i) (at c2 i)))
-
-  home-shares : sharesIn n s1 s2 ≡ sharesSeen First (homeRows First (jobsIn n c1 c2))
-  home-shares =
-      upto-same n _ _ (λ i l. rw (first-at i l, second-at i l)) ∙ sym (upto-map (shareOf First) n (home First))
-      ∙ ap (sharesSeen First) (sym (upto-map (atHome First) n (λ i. jobAt (at c1 i) (at c2 i))))
-
-  -- What the steps ask, where a kind is over.
-  module _ (w : ℕ) (legal : All (LegalJob w) (jobsIn n c1 c2)) where
-    pub asks-first : Ready w (rowsIn n (marksIn n c2 s1) c2 s1 s2) × Summed (rowsIn n (marksIn n c2 s1) c2 s1 s2) r
-    asks-first = rw (home-rows First) (
-      ready-bare w (homeRows First (jobsIn n c1 c2)) (home-ready First w (jobsIn n c1 c2) legal),
-      record {
-        here = gone .sums .here ∙ sym (bare-here (homeRows First (jobsIn n c1 c2)));
-        there = gone .sums .there ∙ sym (bare-there (homeRows First (jobsIn n c1 c2)));
-        small-here = gone .sums .small-here;
-        small-there = gone .sums .small-there;
-      },
-    )
-
-    pub asks-second : Ready w (rowsIn n (marksIn n c1 s2) c1 s2 s1) × Summed (rowsIn n (marksIn n c1 s2) c1 s2 s1) (record { here = r .there; there = r .here })
-    asks-second = rw (home-rows Second) (
-      ready-bare w (homeRows Second (jobsIn n c1 c2)) (home-ready Second w (jobsIn n c1 c2) legal),
-      record {
-        here = gone .sums .there ∙ home-there (jobsIn n c1 c2) ∙ sym (bare-here (homeRows Second (jobsIn n c1 c2)));
-        there = gone .sums .here ∙ sym (home-here (jobsIn n c1 c2)) ∙ sym (bare-there (homeRows Second (jobsIn n c1 c2)));
-        small-here = gone .sums .small-there;
-        small-there = gone .sums .small-here;
-      },
-    )
-
-  -- The answer, by which kinds are over.
-  relieved-home : (k : Kind) (w room away : ℕ) (rows : List Row) → map bare rows ≡ rows → rows ≡ map bare (homeRows k (jobsIn n c1 c2))
-      → settled k room away (stepsOf n w room rows) ≡ relieved k w room away (jobsIn n c1 c2)
-  relieved-home k w room away rows b e =
-      rw (upto-length n (λ i. jobAt (at c1 i) (at c2 i)))
-      (settled-alike k room away _ _ (alike-steps n w room rows (homeRows k (jobsIn n c1 c2)) (b ∙ e)))
-
-  module _ (w room1 room2 : ℕ) where
-    pub both-over : room1 < r .here → room2 < r .there → Answered (splitOf w room1 room2 (jobsIn n c1 c2)) n s1₀ s2₀ s1 s2 false
-    both-over h t = record {
-      is = split-both w room1 room2 (jobsIn n c1 c2) (omega (arith, gone .sums .here)) (omega (arith, gone .sums .there, home-there (jobsIn n c1 c2)));
-      rest1 = rest-first;
-      rest2 = rest-second;
-    }
-
-    pub first-over : room1 < r .here → r .there ≤ room2 → {s1' s2' : List ℕ} {ok : Bool} → Relieved n w room1 room2 c2 s1 s2 s1' s2' ok
-        → Answered (splitOf w room1 room2 (jobsIn n c1 c2)) n s1₀ s2₀ s1' s2' ok
-    first-over h t x = record {
-      is = x .answer First ∙ relieved-home First w room1 room2 _ (rows-bare n (marksIn n c2 s1) c2 s1 s2) (home-rows First)
-          ∙ split-first w room1 room2 (jobsIn n c1 c2) (omega (arith, gone .sums .here)) (omega (arith, gone .sums .there, home-there (jobsIn n c1 c2)));
-      rest1 = x .rest-here ∙ rest-first;
-      rest2 = x .rest-there ∙ rest-second;
-    }
-
-    pub second-over : r .here ≤ room1 → room2 < r .there → {s1' s2' : List ℕ} {ok : Bool} → Relieved n w room2 room1 c1 s2 s1 s2' s1' ok
-        → Answered (splitOf w room1 room2 (jobsIn n c1 c2)) n s1₀ s2₀ s1' s2' ok
-    second-over h t x = record {
-      is = x .answer Second ∙ relieved-home Second w room2 room1 _ (rows-bare n (marksIn n c1 s2) c1 s2 s1) (home-rows Second)
-          ∙ split-second w room1 room2 (jobsIn n c1 c2) (omega (arith, gone .sums .here)) (omega (arith, gone .sums .there, home-there (jobsIn n c1 c2)));
-      rest1 = x .rest-there ∙ rest-first;
-      rest2 = x .rest-here ∙ rest-second;
-    }
-
-    pub none-over : r .here ≤ room1 → r .there ≤ room2 → Answered (splitOf w room1 room2 (jobsIn n c1 c2)) n s1₀ s2₀ s1 s2 true
-    none-over h t =
-        let h' : hereSum (homeRows First (jobsIn n c1 c2)) ≤ room1 = omega (arith, gone .sums .here) in
-        let t' : thereSum (homeRows First (jobsIn n c1 c2)) ≤ room2 = omega (arith, gone .sums .there) in
-        record {
-          is = ap given home-shares ∙ settled-within First room1 room2 (homeRows First (jobsIn n c1 c2)) h' t'
-              ∙ split-home w room1 room2 (jobsIn n c1 c2) h' (omega (arith, home-there (jobsIn n c1 c2)));
-          rest1 = rest-first;
-          rest2 = rest-second;
-        }
-
--- ---- the steps from marked columns
-pub marked-rows : (n : ℕ) (near far here there l : List ℕ) → near ≡ marksIn n far here ++ l → rowsIn n near far here there ≡ rowsIn n (marksIn n far here) far here there
-marked-rows n near far here there l e =
-    upto-same n _ _
-    (λ i h. rw (e, front n (λ k. markOf (at far k) (at here k)) l i h, upto-at n (λ k. markOf (at far k) (at here k)) 0 i h))
-
-seen-shares : (k : Kind) (n : ℕ) (near far here there : List ℕ) → sharesIn n (on k here there) (on k there here) ≡ sharesSeen k (rowsIn n near far here there)
-seen-shares First n near far here there = sym (upto-map (shareOf First) n (λ i. rowAt (at near i) (at far i) (at here i) (at there i)))
-seen-shares Second n near far here there = sym (upto-map (shareOf Second) n (λ i. rowAt (at near i) (at far i) (at here i) (at there i)))
-
-picks : (p q : Bool) (n : ℕ) (s1 s2 : List ℕ) (ss : List Ticks) → sharesIn n s1 s2 ≡ ss → says (p && q) n s1 s2 ≡ cond p (cond q (given ss) (refused 6 0)) (refused 6 0)
-picks true true n s1 s2 ss e = ap given e
-picks true false n s1 s2 ss e = refl
-picks false q n s1 s2 ss e = refl
-
-pub relieves : {n w room : ℕ} (away : ℕ) {near far here there near' here' there' : List ℕ} (l : List ℕ) {sums : Sums} {ok : Bool}
-    → near ≡ marksIn n far here ++ l → Stepped n w room near far here there near' here' there' sums → ok ≡ (leb (sums .here) room && leb (sums .there) away)
-    → Relieved n w room away far here there here' there' ok
-unfolding settled
-relieves {n} {w} {room} away {near} {far} {here} {there} {near'} {here'} {there'} l {sums} {ok} marks steps is = record {
-  answer = λ k.
-      rw (is, ← here-is, ← there-is)
-      (picks (leb (sums .here) room) (leb (sums .there) away) n _ _ _ (seen-shares k n near' far here' there' ∙ ap (sharesSeen k) rows ∙ shares-bare k (stepsOf n w room (rowsIn n (marksIn n far here) far here there))));
-  rest-here = steps .rest-here;
-  rest-there = steps .rest-there;
-}
-  where
-    rows : rowsIn n near' far here' there' ≡ map bare (stepsOf n w room (rowsIn n (marksIn n far here) far here there))
-    rows = steps .rows ∙ ap (λ (rs : List Row). map bare (stepsOf n w room rs)) (marked-rows n near far here there l marks)
-
-    here-is : sums .here ≡ hereSum (stepsOf n w room (rowsIn n (marksIn n far here) far here there))
-    here-is = steps .sum-here ∙ ap hereSum rows ∙ bare-here (stepsOf n w room (rowsIn n (marksIn n far here) far here there))
-
-    there-is : sums .there ≡ thereSum (stepsOf n w room (rowsIn n (marksIn n far here) far here there))
-    there-is = steps .sum-there ∙ ap thereSum rows ∙ bare-there (stepsOf n w room (rowsIn n (marksIn n far here) far here there))
+  pub split-home : homeTicks First js ≤ room1 → homeTicks Second js ≤ room2 → given (sharesSeen First (homeRows First js)) ≡ splitOf w room1 room2 js
+  unfolding byOver
+  split-home h t = rw (le-ltb _ _ h, le-ltb _ _ t)

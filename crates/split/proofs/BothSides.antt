@@ -9,16 +9,16 @@
 -- Assumes nothing.
 use mathlib.Core.List.{List, [], _∷_, map}
 use mathlib.Core.Path.{_≡_, refl}
-use Prim.Native.Nat.{ℕ, _+_}
+use Prim.Native.Nat.{ℕ}
 use native.Mathlib.Omega.{arith}
+use Rattle.rows.specs.Lists.{lowest}
 use Rattle.model.specs.Board.{roomOf}
 use Rattle.model.specs.Refusal.{given, refused}
-use Rattle.model.specs.Split.{Ticks, share, DoneBy, AllDone, ticksOf, Split}
+use Rattle.model.specs.Split.{share}
 use Rattle.model.specs.declared.Kind.the-variants.{First, Second}
 use Rattle.model.specs.declared.Job.{Job}
-use Rattle.model.proofs.BothSides.{board, B, F, S}
+use Rattle.model.proofs.BothSides.{board, B, F, S, two-shares}
 use Rattle.legal.specs.Legal.{legalOf}
-use Rattle.rows.specs.Lists.{lowest}
 use Rattle.split.specs.Home.{stretchedAt}
 use Rattle.split.specs.Promise.{smaller, Accepted, Demands, Exactly}
 
@@ -75,20 +75,6 @@ unfolding roomOf
 accepted-second-not a = omega arith
 
 -- ==== Demands and Exactly
--- The two shares of a set of two jobs.
-two-shares : {w room1 room2 : ℕ} {i j : Job} (s : Split w room1 room2 (i ∷ j ∷ []))
-    → (a : Ticks) × (b : Ticks) × DoneBy w (s .whole) i a × DoneBy w (s .whole) j b × (ticksOf First (s .shares) ≡ a .first + b .first)
-    × (ticksOf Second (s .shares) ≡ a .second + b .second)
-two-shares {w} {i = i} {j = j} s = go (s .shares) (s .done)
-  where
-    go : (ss : List Ticks) → AllDone w (s .whole) (i ∷ j ∷ []) ss
-        → (a : Ticks) × (b : Ticks) × DoneBy w (s .whole) i a × DoneBy w (s .whole) j b × (ticksOf First ss ≡ a .first + b .first)
-        × (ticksOf Second ss ≡ a .second + b .second)
-    go [] d = absurd d
-    go (a ∷ []) d = absurd (d .1)
-    go (a ∷ b ∷ []) d = (a, b, d .0, d .1 .0, omega arith, omega arith)
-    go (a ∷ b ∷ c ∷ ss) d = absurd (d .1 .1)
-
 -- A stretched job needs 3.6 ticks at home, where the smaller board has 9: with 6 for the other job there is no split, with 5 there is.
 pub demands-first : Demands (board 1 1) (B 6 16 ∷ F 6 ∷ []) (refused 6 0)
 unfolding stretchedAt roomOf

@@ -8,10 +8,10 @@ use Prim.Native.Nat.{ℕ, zero, suc, _-_, _≤_}
 use native.Mathlib.Nat.{le-of-suc-le-suc}
 use native.Mathlib.Omega.{arith}
 use lib.ListN.{length, take, drop, replicate}
-use Rattle.model.specs.Board.{on}
-use Rattle.model.specs.Columns.{sharesIn, ticks}
 use Rattle.rows.specs.Upto.{upto, at}
 use Rattle.rows.proofs.Upto.{upto-length, upto-map}
+use Rattle.model.specs.Board.{on}
+use Rattle.model.specs.Columns.{sharesIn, ticks}
 use Rattle.model.specs.Limits.{jobsMost}
 use Rattle.model.specs.Refusal.{Answer}
 use Rattle.model.specs.Split.{Ticks, share, ticksOn}
@@ -21,10 +21,11 @@ use Rattle.model.specs.declared.Kind.{Kind}
 use Rattle.model.specs.declared.Kind.the-variants.{First, Second}
 use Rattle.model.proofs.Determined.{Once, once, said-once, refusal-back, answerOf, rows-back}
 use Rattle.split.specs.Promise.{Promised}
-use Rattle.split.specs.Shares.{sharesOf, balanceOf, saysOutcome, rowsOf, none, saysBalanced}
-use Rattle.split.specs.declared.Balance.{Balance}
-use Rattle.split.specs.declared.Balanced.{Balanced}
-use Rattle.split.specs.declared.Balanced.the-variants.{Given, Refused as NoBalance}
+use Rattle.split.specs.Shares.{sharesOf, balanceOf, saysOutcome, rowsOf, saysBalanced}
+use Rattle.split.specs.Columns.{none}
+use Rattle.split.specs.declared.balance.Balance.{Balance}
+use Rattle.split.specs.declared.balance.Balanced.{Balanced}
+use Rattle.split.specs.declared.balance.Balanced.the-variants.{Given, Refused as NoBalance}
 use Rattle.split.specs.declared.Outcome.{Outcome}
 use Rattle.split.specs.declared.Outcome.the-variants.{Shares, Refused}
 use Rattle.split.specs.declared.Shared.{Shared}

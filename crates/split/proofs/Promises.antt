@@ -15,7 +15,6 @@ use Rattle.model.specs.declared.Kind.{Kind}
 use Rattle.model.specs.declared.Kind.the-variants.{First, Second}
 use Rattle.model.specs.declared.Board.{Board}
 use Rattle.model.specs.declared.Job.{Job}
-use Rattle.model.specs.declared.Job.the-variants.{OnlyFirst}
 use Rattle.model.proofs.Splits.{all-done-length, all-done-at}
 use Rattle.legal.specs.Legal.{legalOf}
 use Rattle.split.specs.Promise.{stretchedOn, Accepted, Promised}

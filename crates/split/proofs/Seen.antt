@@ -18,7 +18,7 @@ use Rattle.model.specs.declared.Kind.the-variants.{First, Second}
 use Rattle.legal.specs.Legal.{legalOf}
 use Rattle.legal.proofs.Seen.{legal-seen, seen-same, legal-costs, costs-same}
 use Rattle.split.specs.Shares.{splitOf, sharesOf, balanceOn, balanceOf}
-use Rattle.split.specs.declared.Balance.{Balance}
+use Rattle.split.specs.declared.balance.Balance.{Balance}
 
 -- What is answered after the checks.
 module _ {A : Type 0} (f : List Job → Answer A) (board : Board) (n : ℕ) (js' js : List Job) (same : legalOf board n js ≡ given tt → js' ≡ js) where

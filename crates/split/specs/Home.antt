@@ -1,11 +1,12 @@
--- Where a job is at home, which jobs are stretched, and the far end: document 01, "The split".
--- A job is seen from a kind, as a row: what it costs here (near) and on the other kind (far), the ticks that it has here and
--- there, and whether it can be moved away from here. Each rule is then written once for both kinds.
---   ceil            a quotient, rounded up
---   homeOn          whether a job on both kinds is at home on a kind: the only rule in which the kinds differ
---   atHome          a job at home, seen from a kind
---   stretchedAt     1 for a stretched job whose home is a kind, else 0
---   keepOf, giveOf  the far end: the ticks that the job keeps at home, and those that it has on the other kind
+-- Where a job is at home, which jobs are stretched, and the far end: docs/SPEC.md, "Where the split starts" and "How far a job can be
+-- moved". A job is seen from a kind, as a row.
+--   ceil             a quotient, rounded up
+--   homeOn           whether a job on both kinds is at home on a kind: the only rule in which the kinds differ
+--   bothRow          the row of a job on both kinds, at home here or there
+--   onlyRow          the row of a job on one kind alone, this one or the other
+--   atHome           a job at home, seen from a kind
+--   stretchedAt      1 for a stretched job whose home is a kind, else 0
+--   keepOf, giveOf   the far end: the ticks that the job keeps at home, and those that it has on the other kind
 -- Assumes nothing.
 use mathlib.Core.Bool.{Bool, true, false, cond, _&&_}
 use Prim.Native.Nat.{ℕ, _+_, _-_, _*_, _/_}
@@ -16,7 +17,6 @@ use Rattle.model.specs.declared.Kind.the-variants.{First, Second}
 use Rattle.model.specs.declared.Job.{Job}
 use Rattle.model.specs.declared.Job.the-variants.{Both, OnlyFirst, OnlySecond}
 use Rattle.split.specs.Rows.{Row}
-use Rattle.split.specs.declared.Ends.{Ends}
 
 abbrev pub ceil : ℕ → ℕ → ℕ
 ceil a b = (a + (b - 1)) / b
@@ -26,12 +26,12 @@ abbrev pub homeOn : Kind → ℕ → ℕ → Bool
 homeOn First c1 c2 = leb c1 c2
 homeOn Second c1 c2 = ltb c2 c1
 
--- A job on both kinds that costs n here and f on the other kind, at home here or there. At home here, it can be moved.
+-- It costs n here and f on the other kind. At home here, it can be moved.
 abbrev pub bothRow : Bool → ℕ → ℕ → Row
 bothRow true n f = record { near = n; far = f; here = n; there = 0; movable = true }
 bothRow false n f = record { near = n; far = f; here = 0; there = f; movable = false }
 
--- A job on one kind alone, this one or the other, with its whole cost there.
+-- Its whole cost is where it may run, and it can never be moved.
 abbrev pub onlyRow : Bool → ℕ → Row
 onlyRow true c = record { near = c; far = 0; here = c; there = 0; movable = false }
 onlyRow false c = record { near = 0; far = c; here = 0; there = c; movable = false }
@@ -53,6 +53,3 @@ keepOf w n f = cond (leb f w) 0 (ceil (n * (f - w)) (f - n))
 
 unfoldable pub giveOf : (w n f : ℕ) → ℕ
 giveOf w n f = cond (leb f w) f (w - keepOf w n f)
-
-abbrev pub farEndOf : (w n f : ℕ) → Ends
-farEndOf w n f = record { keep = keepOf w n f; give = giveOf w n f }

@@ -1,17 +1,22 @@
--- What the split promises beyond its steps: the shares' half of demand 2, and demand 3, over what a split is.
---   smaller      the room of a kind, with one tick fewer for each stretched job whose home it is
---   Accepted     the shares are a split in whole ticks, at most one mover is not even, and movers are few
---   Demands      of shares, that they are accepted; of a refusal for room, that the smaller board has no split
---   Promised     the whole promise of the split: the answer, the demands, and when exactly a refusal is for room
+-- What the split promises beyond its steps: the shares' half of demand 2, and demand 3 (docs/SPEC.md, "What is promised of every set"), over
+-- what a split is.
+--   stretchedOn    how many stretched jobs have their home on a kind
+--   smaller        the room of a kind, with one tick fewer for each of them
+--   SplitOn        a split of the jobs on the whole board
+--   SmallerSplit   a split of the jobs on the board with the smaller rooms
+--   Accepted       the shares are a split in whole ticks, at most one mover is not even, and movers are no more than cores
+--   Demands        of shares, that they are accepted; of a refusal for room, that the smaller board has no split
+--   Exactly        with no stretched job, a legal set is refused for room exactly when no split exists at all
+--   Promised       the whole promise of the split: the answer, the demands, and when exactly a refusal is for room
 -- Assumes nothing.
 use mathlib.Core.Path.{_≡_}
 use mathlib.Core.List.{List}
 use mathlib.Core.Logic.{_↔_}
 use Prim.Native.Nat.{ℕ, _+_, _-_, _≤_}
+use Rattle.rows.specs.Lists.{sumOf}
 use Rattle.model.specs.Board.{roomOf}
 use Rattle.model.specs.Movers.{movers, unevens}
 use Rattle.model.specs.Refusal.{Answer, given, refused}
-use Rattle.rows.specs.Lists.{sumOf}
 use Rattle.model.specs.Split.{Ticks, Split, WholeSplit}
 use Rattle.model.specs.declared.Kind.{Kind}
 use Rattle.model.specs.declared.Kind.the-variants.{First, Second}
@@ -22,7 +27,6 @@ use Rattle.split.specs.Home.{stretchedAt}
 use Rattle.split.specs.Shares.{sharesOf, saysShared, Answers}
 use Rattle.split.specs.declared.Shared.{Shared}
 
--- How many stretched jobs have their home on a kind.
 abbrev pub stretchedOn : Board → List Job → Kind → ℕ
 stretchedOn board js k = sumOf (stretchedAt k (board .window)) js
 
@@ -30,7 +34,6 @@ stretchedOn board js k = sumOf (stretchedAt k (board .window)) js
 abbrev pub smaller : Board → List Job → Kind → ℕ
 smaller board js k = roomOf board k - stretchedOn board js k
 
--- A split of the jobs on the whole board, and on the board with less room.
 abbrev pub SplitOn : Board → List Job → Type 0
 SplitOn board js = Split (board .window) (roomOf board First) (roomOf board Second) js
 
@@ -46,7 +49,6 @@ abbrev pub Demands : Board → List Job → Answer (List Ticks) → Type 0
 Demands board js (given ss) = Accepted board js ss
 Demands board js (refused number place) = number ≡ 6 → SmallerSplit board js → ⊥
 
--- With no stretched job, a legal set is refused for room exactly when no split exists at all.
 abbrev pub Exactly : Board → ℕ → List Job → Answer (List Ticks) → Type 0
 Exactly board n js answer =
     legalOf board n js ≡ given tt → stretchedOn board js First ≡ 0 → stretchedOn board js Second ≡ 0

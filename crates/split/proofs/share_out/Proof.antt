@@ -1,8 +1,8 @@
 -- `split::share_out` meets its contract: shares that were put into columns of zeros, or a refusal with fresh ones. Assumes nothing.
 use borrow.Author.Needs.{needs}
-use Rattle.split.proofs.Answered.{answers-none, answers-shares}
 use Rattle.split.proofs.share_out.Statement.{statement}
 use Rattle.split.proofs.share_out.Tie as tie
+use Rattle.split.proofs.Answers.{answers-none, answers-shares}
 
 slice-aggregate-split-legal : tie.Need-slice-aggregate-split-legal
 slice-aggregate-split-legal c = search needs

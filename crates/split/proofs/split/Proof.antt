@@ -2,20 +2,20 @@
 use mathlib.Core.Path.{_≡_, sym}
 use mathlib.Core.List.{List}
 use Prim.Native.Nat.{ℕ}
+use borrow.Author.Needs.{needs}
 use Rattle.model.specs.Columns.{jobsIn}
 use Rattle.model.specs.Refusal.{given}
 use Rattle.model.specs.declared.Board.{Board}
 use Rattle.model.specs.declared.Job.{Job}
+use Rattle.legal.specs.Legal.{legalOf}
+use Rattle.legal.proofs.Lawful.{legal-lawful}
 use Rattle.split.specs.Shares.{sharesOf, Answers}
 use Rattle.split.specs.Promise.{Promised}
 use Rattle.split.specs.declared.Shared.{Shared}
-use Rattle.legal.specs.Legal.{legalOf}
-use Rattle.legal.proofs.Lawful.{legal-lawful}
-use Rattle.split.proofs.Answered.{answers-none}
 use Rattle.split.proofs.Demands.{demands, exactly}
-use borrow.Author.Needs.{needs}
 use Rattle.split.proofs.split.Statement.{statement}
 use Rattle.split.proofs.split.Tie as tie
+use Rattle.split.proofs.Answers.{answers-none}
 
 promised : (board : Board) (n : ℕ) (js : List Job) (r : Shared) → Answers (sharesOf board n js) r → Promised board n js r
 promised board n js r answers =
@@ -37,11 +37,13 @@ refused-requires c κs = search needs
 enum-told : tie.Need-enum-told
 enum-told c = search needs
 
+-- The checks have passed.
+legal : (c : tie.After-enum-told) → let a = c .before .before .before .args in legalOf (a .board) (a .n) (jobsIn (a .n) (a .first .now) (a .second .now)) ≡ given tt
+legal c = sym (rw (c .enum-told .given .1) at (c .before .before .check .ensures))
+
 share-out-requires : tie.Need-share-out-requires
 share-out-requires c κs =
-    let a = c .before .before .before .args in
-    let legal : legalOf (a .board) (a .n) (jobsIn (a .n) (a .first .now) (a .second .now)) ≡ given tt = sym (rw (c .enum-told .given .1) at (c .before .before .check .ensures)) in
-    let lawful = legal-lawful (a .board) (a .n) (jobsIn (a .n) (a .first .now) (a .second .now)) legal in
+    let lawful = legal-lawful _ _ _ (legal c) in
     (lawful .window-most, lawful .few, lawful .jobs)
 
 returns : tie.Need-returns
@@ -50,10 +52,7 @@ returns c =
     promised _ _ _ _ (rw (c .refused .ensures) (answers-none _ (rw (← e))))
 
 returns-2 : tie.Need-returns-2
-returns-2 c =
-    let a = c .before .before .before .before .args in
-    let legal : legalOf (a .board) (a .n) (jobsIn (a .n) (a .first .now) (a .second .now)) ≡ given tt = sym (rw (c .before .enum-told .given .1) at (c .before .before .before .check .ensures)) in
-    promised _ _ _ _ (rw legal (c .share-out .ensures))
+returns-2 c = promised _ _ _ _ (rw (legal (c .before)) (c .share-out .ensures))
 
 pub split-spec : {M : Type 1} → statement M
 split-spec =

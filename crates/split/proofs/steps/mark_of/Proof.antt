@@ -1,0 +1,13 @@
+-- `split::steps::mark_of` meets its contract. Assumes nothing.
+use borrow.Author.Tests.{eq-eqb, ne-eqb}
+use Rattle.split.proofs.steps.mark_of.Statement.{statement}
+use Rattle.split.proofs.steps.mark_of.Tie as tie
+
+returns : tie.Need-returns
+returns c = simp (eq-eqb _ _ (c .if1 .taken))
+
+returns-2 : tie.Need-returns-2
+returns-2 c = simp (ne-eqb _ _ (c .if1 .left))
+
+pub mark-of-spec : {M : Type 1} → statement M
+mark-of-spec = tie.close (tie.spec returns returns-2)
