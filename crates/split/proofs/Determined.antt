@@ -9,7 +9,8 @@ use native.Mathlib.Nat.{le-of-suc-le-suc}
 use native.Mathlib.Omega.{arith}
 use lib.ListN.{length, take, drop, replicate}
 use Rattle.model.specs.Board.{on}
-use Rattle.model.specs.Columns.{sharesIn, ticks}
+use Rattle.model.specs.Columns.{sharesIn}
+use Rattle.model.specs.Terms.{ticks}
 use Rattle.rows.specs.Upto.{upto, at}
 use Rattle.rows.proofs.Upto.{upto-length, upto-map}
 use Rattle.model.specs.Limits.{jobsMost}
