@@ -121,8 +121,12 @@ same-core = search
 pub same-core-number-not : SameCore early (row 0 First 1 0 4) → ⊥
 same-core-number-not same = omega arith
 
+-- Cores of different kinds are different cores, whatever their numbers.
+pub kinds-differ : {A : Type 0} {a b : ℕ} → (First ≡ Second) × (a ≡ b) → A
+kinds-differ e = let z : _≡_ {A = ℕ} 0 1 = cc in absurd (omega arith)
+
 pub same-core-kind-not : SameCore early (row 0 Second 0 0 4) → ⊥
-same-core-kind-not same = let z : _≡_ {A = ℕ} 0 1 = cc in omega arith
+same-core-kind-not same = kinds-differ same
 
 -- ==== Timetable: two even movers that fill a board with one core of each kind, edge to edge
 abbrev rows : List Slice
@@ -193,10 +197,6 @@ two-jobs P a b c d First (suc zero) l = b
 two-jobs P a b c d Second zero l = c
 two-jobs P a b c d Second (suc zero) l = d
 two-jobs P a b c d kind (suc (suc job)) l = absurd (omega arith)
-
--- Cores of different kinds are different cores, whatever their numbers.
-pub kinds-differ : {A : Type 0} {a b : ℕ} → (First ≡ Second) × (a ≡ b) → A
-kinds-differ e = let z : _≡_ {A = ℕ} 0 1 = cc in absurd (omega arith)
 
 pub table-full : Full (board 1 1) (share 4 6 ∷ share 6 4 ∷ [])
 table-full =

@@ -25,7 +25,7 @@ use Rattle.slices.proofs.Counts.{table-jobs}
 use Rattle.slices.proofs.Cuts.{Cut, cut-cores}
 use Rattle.slices.proofs.Pieces.{shareAt}
 use Rattle.slices.proofs.Places.{Placed}
-use Rattle.slices.proofs.Timetabled.{kinds-differ, kind-pairs, table-pairs, table-timetable}
+use Rattle.slices.proofs.Timetabled.{kinds-same-not, kind-pairs, table-pairs, table-timetable}
 
 -- A job with a slice on a kind has a slice.
 count-kind : (kind : Kind) (job : ℕ) (rows : List Slice) → countOf (isOf kind job) rows ≤ countOf (λ (s : Slice). eqb (s .job) job) rows
@@ -51,7 +51,7 @@ module _ (board : Board) (ss : List Ticks) (fits : Fits board ss) where
   table-cores : Pairs CoresDiffer (tableOf w ss)
   table-cores =
       table-pairs board ss fits CoresDiffer
-      (λ s t e f job same. kinds-differ s t e f (same .0))
+      (λ s t e f job same. kinds-same-not s t e f (same .0))
       (λ k. kind-pairs board ss fits k CoresDiffer
       (λ o p h. cut-cores k w o p (fits .some)) (runs-cores k))
 

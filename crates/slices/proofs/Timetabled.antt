@@ -31,8 +31,8 @@ use Rattle.slices.proofs.Places.{offset, Placed, pieces-placed, offset-
 abbrev pub rowsOn : Kind → ℕ → List Ticks → List Slice
 rowsOn k w ss = packed k w 0 (piecesOf k w ss)
 
-pub kinds-differ : (s t : Slice) → s .kind ≡ First → t .kind ≡ Second → s .kind ≡ t .kind → ⊥
-kinds-differ s t e f same = let z : _≡_ {A = ℕ} 0 1 = cc in omega arith
+pub kinds-same-not : (s t : Slice) → s .kind ≡ First → t .kind ≡ Second → s .kind ≡ t .kind → ⊥
+kinds-same-not s t e f same = let z : _≡_ {A = ℕ} 0 1 = cc in omega arith
 
 -- The place of a tick on a core, in the kind's direction.
 abbrev place : Kind → ℕ → ℕ → ℕ
@@ -184,7 +184,7 @@ module _ (board : Board) (ss : List Ticks) where
         (kind-all Second (λ (s : Slice). s .kind ≡ Second) (λ o p s high h cut. cut .kind)) (one First) (one Second)
 
     table-before : Pairs (Before w) (tableOf w ss)
-    table-before = table-pairs (Before w) (λ s t e f same. absurd (kinds-differ s t e f same)) kind-before
+    table-before = table-pairs (Before w) (λ s t e f same. absurd (kinds-same-not s t e f same)) kind-before
 
     table-served : (kind : Kind) (job : ℕ) → job < length ss
         → ticksIn kind job (tableOf w ss) ≡ ticksOn kind (getD ss job (share 0 0))
