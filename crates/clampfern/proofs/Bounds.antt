@@ -10,7 +10,7 @@ use Rattle.model.specs.Board.{coresOf}
 use Rattle.model.specs.Limits.{windowMost, coresMost, jobsMost, slicesMost}
 use Rattle.rows.specs.Lists.{All}
 use Rattle.rows.proofs.Lists.{all-map}
-use Rattle.model.specs.Packed.{Narrow}
+use Rattle.model.specs.Terms.{Narrow}
 use Rattle.model.specs.Refusal.{given}
 use Rattle.model.specs.Timetable.{Inside}
 use Rattle.model.specs.Split.{Ticks}

@@ -9,7 +9,8 @@ use native.Mathlib.Numerals.{unary-clauses}
 use native.Mathlib.Omega.{arith}
 use borrow.Author.Tests.{le-ltb}
 use lib.ListN.{length, drop, replicate}
-use Rattle.model.specs.Columns.{jobsIn, seen, sharesIn as sharesFrom}
+use Rattle.model.specs.Columns.{jobsIn, sharesIn as sharesFrom}
+use Rattle.model.specs.Terms.{seen}
 use Rattle.model.specs.Limits.{jobsMost, slicesMost}
 use Rattle.model.specs.Packed.{packOf, slicesIn as slicesFrom}
 use Rattle.model.specs.Refusal.{Answer, given, refused, andThen, numberOf, placeOf}

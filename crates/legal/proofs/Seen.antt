@@ -14,7 +14,8 @@ use borrow.Author.Tests.{le-ltb, ltb-false, ne-eqb}
 use lib.Dec.{eqb, ltb}
 use lib.ListN.{length, take}
 use lib.Seq.{length-take-le}
-use Rattle.model.specs.Columns.{jobAt, jobsIn, costs, seen, second, both}
+use Rattle.model.specs.Columns.{jobAt, jobsIn, costs, jobSecond as second, jobBoth as both}
+use Rattle.model.specs.Terms.{seen}
 use Rattle.model.specs.Limits.{costMost, jobsMost}
 use Rattle.rows.specs.Lists.{All, lowest}
 use Rattle.model.specs.Refusal.{given}

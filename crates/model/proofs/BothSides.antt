@@ -2,13 +2,18 @@
 -- would let every theorem over it pass, or leave only a proof script to object. So each clause has here an example exactly at its limit, and one
 -- that is wrong by one in this clause and in no other, and is refuted; its name ends in `-not`. A slip in the clause makes one of the two false.
 -- The window is 10, and 2 where a tick is halved. The lines that are held, in this order:
---   Limits                the numbers of document 01            coresOf, roomOf    each kind by its own count
---   Inside                some, ends, core, job                 Runs, Apart        the first tick, the last, and the one behind it
---   SameCore              the kind and the number               Timetable          served, inside, cores, jobs; the first job and the last
---   DoneBy                  work, window, the other kind; in whole ticks and in fifths
---   AllDone                    a share for each job                  WholeSplit, Split       rooms exactly full, some, what fractions add
---   isMover, isEven, movers, unevens
---   costs, jobsIn, seen   each way to be a job, and what is written as 0 and 0    packOf, sliceIn    each byte at its limit
+--   Limits                              the numbers of docs/SPEC.md
+--   coresOf, roomOf                     each kind by its own count
+--   Inside                              some, ends, core, job
+--   Runs, Apart                         the first tick, the last, and the one behind it
+--   SameCore                            the kind and the number
+--   Timetable                           served, inside, cores, jobs; the first job and the last
+--   DoneBy                              work, window, the other kind; in whole ticks and in fifths
+--   AllDone                             a share for each job
+--   WholeSplit, Split                   rooms exactly full, some, what fractions add
+--   isMover, isEven, movers, unevens    what counts, and what does not
+--   costOn, jobsIn, seen                each way to be a job, and what is written as 0 and 0
+--   packOf, sliceIn                     each byte at its limit
 -- Assumes nothing.
 use mathlib.Core.Bool.{true, false}
 use mathlib.Core.List.{List, [], _∷_, map}
@@ -18,7 +23,8 @@ use native.Mathlib.Omega.{arith}
 use lib.ListN.{getD}
 use Rattle.model.specs.Limits.{windowMost, coresMost, jobsMost, costMost, slicesMost, textMost}
 use Rattle.model.specs.Board.{coresOf, roomOf}
-use Rattle.model.specs.Columns.{jobAt, jobsIn, costOn, seen, first, second, both}
+use Rattle.model.specs.Columns.{jobAt, jobsIn, costOn, jobFirst, jobSecond, jobBoth}
+use Rattle.model.specs.Terms.{seen}
 use Rattle.model.specs.Packed.{packOf, sliceIn}
 use Rattle.model.specs.Movers.{isMover, isEven, movers, unevens}
 use Rattle.model.specs.Split.{Ticks, share, ticksOn, DoneBy, AllDone, ticksOf, Split, WholeSplit}
@@ -27,7 +33,6 @@ use Rattle.model.specs.declared.Kind.{Kind}
 use Rattle.model.specs.declared.Kind.the-variants.{First, Second}
 use Rattle.model.specs.declared.Board.{Board}
 use Rattle.model.specs.declared.Job.{Job}
-use Rattle.model.specs.declared.Job.the-variants.{Both, OnlyFirst, OnlySecond}
 use Rattle.model.specs.declared.Slice.{Slice}
 
 abbrev pub board : ℕ → ℕ → Board
@@ -36,15 +41,15 @@ board first second = record { window = 10; first = first; second = second }
 abbrev pub row : ℕ → Kind → (core start length : ℕ) → Slice
 row job kind core start length = record { job = job; kind = kind; core = core; start = start; length = length }
 
--- Document 01's B(a,b) and F(a), and the same on the second kind.
+-- Jobs, as the worked sets write them: on both kinds, on the first alone, on the second alone.
 abbrev pub B : ℕ → ℕ → Job
-B a b = Both (record { 0 = a }) (record { 0 = b })
+B = jobBoth
 
 abbrev pub F : ℕ → Job
-F a = OnlyFirst (record { 0 = a })
+F = jobFirst
 
 abbrev pub S : ℕ → Job
-S a = OnlySecond (record { 0 = a })
+S = jobSecond
 
 -- ==== The numbers
 pub limits-are : windowMost ∷ coresMost ∷ jobsMost ∷ costMost ∷ slicesMost ∷ textMost ∷ [] ≡ 65535 ∷ 8 ∷ 64 ∷ 1000000 ∷ 94 ∷ 4096 ∷ []
@@ -116,8 +121,12 @@ same-core = search
 pub same-core-number-not : SameCore early (row 0 First 1 0 4) → ⊥
 same-core-number-not same = omega arith
 
+-- Cores of different kinds are different cores, whatever their numbers.
+pub kinds-differ : {A : Type 0} {a b : ℕ} → (First ≡ Second) × (a ≡ b) → A
+kinds-differ e = let z : _≡_ {A = ℕ} 0 1 = cc in absurd (omega arith)
+
 pub same-core-kind-not : SameCore early (row 0 Second 0 0 4) → ⊥
-same-core-kind-not same = let z : _≡_ {A = ℕ} 0 1 = cc in omega arith
+same-core-kind-not same = kinds-differ same
 
 -- ==== Timetable: two even movers that fill a board with one core of each kind, edge to edge
 abbrev rows : List Slice
@@ -188,10 +197,6 @@ two-jobs P a b c d First (suc zero) l = b
 two-jobs P a b c d Second zero l = c
 two-jobs P a b c d Second (suc zero) l = d
 two-jobs P a b c d kind (suc (suc job)) l = absurd (omega arith)
-
--- Cores of different kinds are different cores, whatever their numbers.
-pub kinds-differ : {A : Type 0} {a b : ℕ} → (First ≡ Second) × (a ≡ b) → A
-kinds-differ e = let z : _≡_ {A = ℕ} 0 1 = cc in absurd (omega arith)
 
 pub table-full : Full (board 1 1) (share 4 6 ∷ share 6 4 ∷ [])
 table-full =
@@ -374,7 +379,7 @@ unevens-counted = refl
 
 -- ==== Columns
 abbrev jobs-in-columns : List Job
-jobs-in-columns = both 6 9 ∷ first 5 ∷ second 7 ∷ both 0 9 ∷ both 6 0 ∷ second 0 ∷ []
+jobs-in-columns = B 6 9 ∷ F 5 ∷ S 7 ∷ B 0 9 ∷ B 6 0 ∷ S 0 ∷ []
 
 pub costs-first : map (costOn First) jobs-in-columns ≡ 6 ∷ 5 ∷ 0 ∷ 0 ∷ 0 ∷ 0 ∷ []
 costs-first = refl
@@ -383,11 +388,11 @@ pub costs-second : map (costOn Second) jobs-in-columns ≡ 9 ∷ 0 ∷ 7 ∷ 0 �
 costs-second = refl
 
 -- The first three are themselves; the others cost nothing, as refusal 4 wants it.
-pub jobs-seen : map seen jobs-in-columns ≡ both 6 9 ∷ first 5 ∷ second 7 ∷ first 0 ∷ first 0 ∷ first 0 ∷ []
+pub jobs-seen : map seen jobs-in-columns ≡ B 6 9 ∷ F 5 ∷ S 7 ∷ F 0 ∷ F 0 ∷ F 0 ∷ []
 unfolding jobAt
 jobs-seen = refl
 
-pub jobs-read : jobsIn 2 (6 ∷ 0 ∷ 3 ∷ []) (9 ∷ 7 ∷ 3 ∷ []) ≡ both 6 9 ∷ second 7 ∷ []
+pub jobs-read : jobsIn 2 (6 ∷ 0 ∷ 3 ∷ []) (9 ∷ 7 ∷ 3 ∷ []) ≡ B 6 9 ∷ S 7 ∷ []
 unfolding jobAt
 jobs-read = refl
 

@@ -7,16 +7,17 @@ use native.Mathlib.Omega.{arith}
 use borrow.Author.Tests.{eqb-true, eqb-false}
 use lib.Dec.{eqb}
 use lib.ListN.{length}
-use Rattle.model.specs.Columns.{first, second, both, jobAt, jobsIn, costOn, costs, seen}
+use Rattle.model.specs.Columns.{jobFirst, jobSecond, jobBoth, jobAt, jobsIn, costOn, costs}
+use Rattle.model.specs.Terms.{seen}
 use Rattle.model.specs.Limits.{jobsMost}
 use Rattle.model.specs.declared.Kind.the-variants.{First, Second}
 use Rattle.model.specs.declared.Job.{Job}
 
 -- ---- a job of its costs, by which of them are 0
 pub data Case (a b : ℕ) : Job → Type 0 where
-  on-first : b ≡ 0 → Case a b (first a)
-  on-second : a ≡ 0 → Case a b (second b)
-  on-both : 0 < a → 0 < b → Case a b (both a b)
+  on-first : b ≡ 0 → Case a b (jobFirst a)
+  on-second : a ≡ 0 → Case a b (jobSecond b)
+  on-both : 0 < a → 0 < b → Case a b (jobBoth a b)
 
 above : (x : ℕ) → (x ≡ 0 → ⊥) → 0 < x
 above zero ne = absurd (ne refl)
@@ -26,7 +27,7 @@ pub case : (a b : ℕ) → Case a b (jobAt a b)
 unfolding jobAt
 case a b = go (eqb b 0) refl (eqb a 0) refl
   where
-    go : (p : Bool) → eqb b 0 ≡ p → (q : Bool) → eqb a 0 ≡ q → Case a b (cond p (first a) (cond q (second b) (both a b)))
+    go : (p : Bool) → eqb b 0 ≡ p → (q : Bool) → eqb a 0 ≡ q → Case a b (cond p (jobFirst a) (cond q (jobSecond b) (jobBoth a b)))
     go true e q f = on-first (eqb-true b 0 e)
     go false e true f = on-second (eqb-true a 0 f)
     go false e false f = on-both (above a (eqb-false a 0 f)) (above b (eqb-false b 0 e))

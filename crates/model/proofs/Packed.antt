@@ -3,7 +3,8 @@ use mathlib.Core.Path.{_≡_, refl}
 use Prim.Native.Nat.{ℕ, _+_, _*_, _/_, _%_, _<_}
 use native.Mathlib.Omega.{arith}
 use Rattle.model.specs.Board.{on}
-use Rattle.model.specs.Packed.{packOf, kindOf, sliceIn, Narrow}
+use Rattle.model.specs.Packed.{packOf, kindOf, sliceIn}
+use Rattle.model.specs.Terms.{Narrow}
 use Rattle.model.specs.declared.Kind.{Kind}
 use Rattle.model.specs.declared.Kind.the-variants.{First, Second}
 use Rattle.model.specs.declared.Slice.{Slice}

@@ -1,4 +1,4 @@
--- One empty value of each type of row and of job: what a list has past its end, where nothing looks.
+-- Internal: no public promise cites this. One empty value of each type of row and of job: what a list has past its end, where nothing looks.
 --   noJob     a job that no set has: it costs nothing
 --   noShare   a row of no ticks
 --   noSlice   a slice of no length

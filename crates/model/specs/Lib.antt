@@ -3,8 +3,9 @@ pub mod Board
 pub mod Refusal
 pub mod Split
 pub mod ShareRow
-pub mod Empty
 pub mod Movers
 pub mod Timetable
 pub mod Columns
 pub mod Packed
+pub mod Terms
+pub mod Empty

@@ -1,15 +1,17 @@
 -- A slice as one number, in which the calls between our crates pass the table: its job, its kind as a text writes it, its core, its start and
 -- its length, from the lowest byte up.
---   packOf      the number of a slice
---   kindOf      the kind of its number in a text
---   sliceIn     the slice of a number; slicesIn, of a column
--- Each is taken back by the other where the slice's fields have the bytes that the record has for them (proofs/Packed.antt). Assumes nothing.
+--   packOf     the number of a slice
+--   kindOf     the kind of its number in a text
+--   sliceIn    the slice of a number
+--   slicesIn   the slices of a column of numbers
+-- A slice whose fields fit the bytes that the record has for them is the slice of its number (proofs/Packed.antt).
+-- Assumes nothing.
 use mathlib.Core.Bool.{cond}
 use mathlib.Core.List.{List}
-use Prim.Native.Nat.{ℕ, _+_, _*_, _/_, _%_, _<_}
+use Prim.Native.Nat.{ℕ, _+_, _*_, _/_, _%_}
 use lib.Dec.{eqb}
-use Rattle.model.specs.Board.{on}
 use Rattle.rows.specs.Upto.{upto, at}
+use Rattle.model.specs.Board.{on}
 use Rattle.model.specs.declared.Kind.{Kind}
 use Rattle.model.specs.declared.Kind.the-variants.{First, Second}
 use Rattle.model.specs.declared.Slice.{Slice}
@@ -32,10 +34,3 @@ sliceIn x =
 
 abbrev pub slicesIn : ℕ → List ℕ → List Slice
 slicesIn n column = upto n (λ i. sliceIn (at column i))
-
--- The bytes that the record has for a slice's fields.
-pub record Narrow (s : Slice) : Type 0 where
-  pub job : s .job < 256
-  pub core : s .core < 256
-  pub start : s .start < 65536
-  pub length : s .length < 65536

@@ -22,7 +22,8 @@ use Rattle.rows.specs.Lists.{All, front}
 use Rattle.rows.proofs.Upto.{upto-length, upto-map}
 use Rattle.rows.proofs.Lists.{all-map}
 use Rattle.model.specs.Limits.{coresMost, jobsMost, slicesMost}
-use Rattle.model.specs.Packed.{packOf, sliceIn, slicesIn as slicesFrom, Narrow}
+use Rattle.model.specs.Packed.{packOf, sliceIn, slicesIn as slicesFrom}
+use Rattle.model.specs.Terms.{Narrow}
 use Rattle.model.specs.Refusal.{Answer, given, refused, saysRefusal, andThen}
 use Rattle.model.specs.Split.{Ticks, share, ticksOn}
 use Rattle.model.specs.Timetable.{Inside}

@@ -14,7 +14,8 @@ use lib.Dec.{leb, ltb}
 use lib.ListN.{length, take, drop, replicate, length-map}
 use lib.Seq.{take-append-seam, take-length}
 use Rattle.model.specs.Board.{roomOf}
-use Rattle.model.specs.Columns.{costOn, jobsIn, seen, sharesIn as sharesFrom}
+use Rattle.model.specs.Columns.{costOn, jobsIn, sharesIn as sharesFrom}
+use Rattle.model.specs.Terms.{seen}
 use Rattle.model.specs.Limits.{windowMost, coresMost, jobsMost}
 use Rattle.model.specs.Packed.{slicesIn as slicesFrom}
 use Rattle.model.specs.Refusal.{Answer, given, refused, andThen}

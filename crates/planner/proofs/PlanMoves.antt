@@ -29,7 +29,8 @@ use Rattle.model.specs.declared.Job.the-variants.{Both, OnlyFirst, OnlySecond}
 use Rattle.model.specs.declared.Slice.{Slice}
 use Rattle.model.proofs.Splits.{all-done-length}
 use Rattle.legal.specs.Lawful.{LegalJob}
-use Rattle.slices.specs.Moves.{movesOf, OncePerCore}
+use Rattle.slices.specs.Moves.{movesOf}
+use Rattle.slices.specs.OncePerCore.{OncePerCore}
 use Rattle.slices.specs.Table.{tableOf}
 use Rattle.slices.specs.declared.Moves.{Moves}
 use Rattle.slices.proofs.MovesAll.{moves-all}

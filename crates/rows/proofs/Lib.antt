@@ -1,6 +1,18 @@
+-- The guide to the laws of this crate, in reading order. None of them knows of boards and jobs.
+
+-- What each definition says, by examples. No crate cites it: it is `pub`, and first, because the checker takes public modules first, and a definition
+-- that is made weaker is then refused at an example that it makes false.
+pub mod BothSides
+-- What is said of all elements, of every two, and sums: from element to element, and of two lists one behind the other.
 pub mod Lists
-pub mod Walk
-pub mod Upto
-pub mod Numbered
+-- The same of the members of a list.
 pub mod Members
+-- Lists of a function's values, and a column that is filled from its start.
+pub mod Upto
+-- Elements that are taken with their numbers, and sums over the numbers below n: they serve theorems that no promise needs, on all moves of a plan
+-- and on the closed form of the split.
+pub mod Numbered
+-- A walk over the first n of a list, and the table that it fills.
+pub mod Walk
+-- A field that is an array of a declared type, at its elements: for code that lends tables of records.
 pub mod Fields

@@ -7,15 +7,15 @@ use mathlib.Core.List.{List, [], _∷_}
 use Prim.Native.Nat.{ℕ, zero, suc, _<_}
 use native.Mathlib.Omega.{arith}
 use lib.Dec.{eqb}
-use Rattle.model.specs.Board.{roomOf}
 use Rattle.rows.specs.Lists.{countOf}
+use Rattle.model.specs.Board.{roomOf}
 use Rattle.model.specs.Split.{Ticks, share}
 use Rattle.model.specs.declared.Kind.{Kind}
 use Rattle.model.specs.declared.Kind.the-variants.{First, Second}
 use Rattle.model.specs.declared.Slice.{Slice}
 use Rattle.model.proofs.BothSides.{board, row, kinds-differ, runs-five, runs-four}
 use Rattle.slices.specs.Fits.{Fits}
-use Rattle.slices.specs.Moves.{OncePerCore}
+use Rattle.slices.specs.OncePerCore.{OncePerCore}
 
 -- ==== Fits, on a board with one core of each kind
 abbrev On : List Ticks → Type 0

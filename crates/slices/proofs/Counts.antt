@@ -6,9 +6,8 @@ use mathlib.Core.List.{List, [], _∷_}
 use Prim.Native.Nat.{ℕ, _+_, _*_, _≤_, _<_}
 use native.Mathlib.Omega.{arith}
 use lib.ListN.{length, getD, length-append}
-use Rattle.model.proofs.RoomLaws.{room-most, room-both}
-use Rattle.model.specs.Board.{coresOf}
 use Rattle.rows.specs.Lists.{countOf}
+use Rattle.model.specs.Board.{coresOf}
 use Rattle.model.specs.Movers.{movers}
 use Rattle.model.specs.Split.{Ticks, share, ticksOn}
 use Rattle.model.specs.Timetable.{isOf, ticksIn}
@@ -16,6 +15,7 @@ use Rattle.model.specs.declared.Board.{Board}
 use Rattle.model.specs.declared.Kind.{Kind}
 use Rattle.model.specs.declared.Kind.the-variants.{First, Second}
 use Rattle.model.specs.declared.Slice.{Slice}
+use Rattle.model.proofs.RoomLaws.{room-most, room-both}
 use Rattle.model.proofs.Movers.{movers-few}
 use Rattle.slices.specs.Fits.{Fits}
 use Rattle.slices.specs.Table.{piecesOf, tableOf}

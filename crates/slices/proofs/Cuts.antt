@@ -5,15 +5,16 @@ use mathlib.Core.Bool.{Bool, true, false, cond, _&&_}
 use Prim.Native.Nat.{ℕ, _+_, _-_, _*_, _/_, _%_, _≤_, _<_}
 use native.Mathlib.Nat.{div-add-mod', mod-lt, lt-of-mul-lt-mul-right, mul-le-mul-right}
 use native.Mathlib.Omega.{arith}
+use borrow.Author.Tests.{leb-true, leb-false}
 use lib.Dec.{leb, eqb}
 use lib.ListN.{length}
-use borrow.Author.Tests.{leb-true, leb-false}
-use Rattle.model.specs.Board.{on, sameKind}
 use Rattle.rows.specs.Lists.{All, Pairs}
-use Rattle.model.specs.Timetable.{SameCore, ticksIn}
+use Rattle.model.specs.Board.{on, sameKind}
+use Rattle.model.specs.Timetable.{ticksIn}
 use Rattle.model.specs.declared.Kind.{Kind}
 use Rattle.model.specs.declared.Kind.the-variants.{First, Second}
 use Rattle.model.specs.declared.Slice.{Slice}
+use Rattle.slices.specs.OncePerCore.{CoresDiffer}
 use Rattle.slices.specs.Table.{Piece, sliceOf, cutOf}
 
 -- The position at which a slice begins, in the kind's direction.
@@ -69,11 +70,11 @@ module _ (k : Kind) (w o : ℕ) (p : Piece) (wide : 1 ≤ w) where
           )
 
   -- The second slice of a run is on another core.
-  pub cut-cores : Pairs (λ (s t : Slice). s .job ≡ t .job → SameCore s t → ⊥) (cutOf k w o p)
+  pub cut-cores : Pairs CoresDiffer (cutOf k w o p)
   unfolding cutOf
   cut-cores = go (leb (o % w + p .ticks) w) refl
     where
-      go : (t : Bool) → leb (o % w + p .ticks) w ≡ t → Pairs (λ (s t : Slice). s .job ≡ t .job → SameCore s t → ⊥) (cutOf k w o p)
+      go : (t : Bool) → leb (o % w + p .ticks) w ≡ t → Pairs CoresDiffer (cutOf k w o p)
       go true t = rw t (tt, tt)
       go false t = rw t (((λ job same. omega (arith, same .1)), tt), (tt, tt))
 

@@ -6,14 +6,17 @@ use mathlib.Core.List.{List, [], _∷_, List·Memᴰ, List·Memᴰ·head, List·
 use mathlib.Core.Logic.{_⊎_, inl, inr}
 use Prim.Native.Nat.{ℕ, _<_}
 use native.Mathlib.Omega.{arith}
-use lib.Dec.{eqb, ltb}
 use borrow.Author.Tests.{eqb-true, ltb-true, eq-eqb, lt-ltb}
+use lib.Dec.{eqb, ltb}
 use Rattle.rows.specs.Lists.{All}
 use Rattle.rows.proofs.Members.{all-member}
 use Rattle.model.specs.declared.Slice.{Slice}
 use Rattle.slices.specs.Moves.{isBefore, later, laterOf, beforeFrom, beforeOf}
 use Rattle.slices.specs.declared.Before.{Before}
 use Rattle.slices.specs.declared.Before.the-variants.{Nothing, Row}
+
+row-nothing-not : {b : Slice} → Row b ≡ Nothing → ⊥
+row-nothing-not h = let z : _≡_ {A = ℕ} 0 1 = cc in omega arith
 
 module _ (s : Slice) where
   -- What is found after a row is the row itself or was found before it.
@@ -49,11 +52,11 @@ module _ (s : Slice) where
   later-none x r h = go (isBefore r s) refl x h
     where
       never : (t : Bool) (c : Slice) → cond t (Row r) (Row c) ≡ Nothing → ⊥
-      never true c h = let z : _≡_ {A = ℕ} 0 1 = cc in omega arith
-      never false c h = let z : _≡_ {A = ℕ} 0 1 = cc in omega arith
+      never true c h = row-nothing-not h
+      never false c h = row-nothing-not h
 
       go : (t : Bool) → isBefore r s ≡ t → (x : Before) → cond t (later x r) x ≡ Nothing → (x ≡ Nothing) × (isBefore r s ≡ false)
-      go true q Nothing h = let z : _≡_ {A = ℕ} 0 1 = cc in absurd (omega arith)
+      go true q Nothing h = absurd (row-nothing-not h)
       go true q (Row c) h = absurd (never (ltb (c .start) (r .start)) c h)
       go false q x h = (h, q)
 
@@ -69,7 +72,7 @@ module _ (s : Slice) where
   before-row rows b h = go (from-row Nothing rows b h)
     where
       go : (Nothing ≡ Row b) ⊎ (List·Memᴰ b rows × (isBefore b s ≡ true)) → List·Memᴰ b rows × (b .job ≡ s .job) × (b .start < s .start)
-      go (inl e) = let z : _≡_ {A = ℕ} 0 1 = cc in absurd (omega arith)
+      go (inl e) = absurd (row-nothing-not (sym e))
       go (inr e) =
           let both = and-eq-true-iff (eqb (b .job) (s .job)) (ltb (b .start) (s .start)) .0 (e .1) in
           (e .0, eqb-true _ _ (both .0), ltb-true _ _ (both .1))

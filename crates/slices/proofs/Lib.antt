@@ -1,12 +1,32 @@
+-- The guide to this crate's proofs, in reading order. Each function's own proof is in the folder of its name.
+
+-- Both sides of each line that a theorem's premise draws. No crate cites it: it is `pub`, and first, because the checker takes public modules first,
+-- and a definition that is made weaker is then refused at an example that it makes false.
 pub mod BothSides
-pub mod Cuts
+-- ---- the table is a timetable
+-- The slices of one run of positions, cut at the edge of a core.
+mod Cuts
+-- The slices of runs that stand one behind the other on a kind.
 pub mod Packs
+-- The jobs that stand on a kind: their ticks, and how many there are.
 pub mod Pieces
-pub mod Places
+-- The position at which each job begins, and why a mover's two add up to whole windows.
+mod Places
+-- The goal: the table of shares that fit a board is a timetable of them.
 pub mod Timetabled
+-- How many slices the table has at the most.
 pub mod Counts
-pub mod Totals
-pub mod Earlier
+-- ---- all moves of a plan are its slices less its jobs: no promise needs this theorem, and the planner's bound on moves cites it
+-- Counts over the rows of a table, job by job.
+mod Totals
+-- What the slice before a slice is.
+mod Earlier
+-- Where no job comes back to a core, all moves and the jobs are the rows.
 pub mod MovesAll
+-- No job of the table comes back to a core.
 pub mod OncePerCore
-pub mod Determined
+-- ---- what no promise needs and a reader may
+-- The promise allows one result.
+mod Determined
+-- Worked sets: their tables and their moves.
+mod Examples

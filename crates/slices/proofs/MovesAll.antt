@@ -5,20 +5,21 @@ use mathlib.Core.Bool.{Bool, true, false, true≢false, cond, not, _&&_, and-eq-
 use mathlib.Core.List.{List, List·Memᴰ}
 use Prim.Native.Nat.{ℕ, zero, suc, _+_, _<_}
 use native.Mathlib.Omega.{arith}
+use borrow.Author.Tests.{eqb-true, eq-eqb}
 use lib.Dec.{eqb}
 use lib.ListN.{length}
-use borrow.Author.Tests.{eqb-true, eq-eqb}
-use Rattle.rows.proofs.Numbered.{below-ones}
-use Rattle.model.specs.Board.{sameKind}
 use Rattle.rows.specs.Lists.{countOf}
-use Rattle.rows.proofs.Lists.{all-map, pairs-map}
 use Rattle.rows.specs.Numbered.{sumBelow}
+use Rattle.rows.proofs.Numbered.{below-ones}
+use Rattle.rows.proofs.Lists.{all-map, pairs-map}
 use Rattle.rows.proofs.Members.{all-members, all-member, pairs-members}
+use Rattle.model.specs.Board.{sameKind}
 use Rattle.model.specs.Timetable.{Apart, SameCore}
 use Rattle.model.specs.declared.Kind.{Kind}
 use Rattle.model.specs.declared.Kind.the-variants.{First, Second}
 use Rattle.model.specs.declared.Slice.{Slice}
-use Rattle.slices.specs.Moves.{beforeOf, isOuter, isInner, counted, movesOf, OncePerCore}
+use Rattle.slices.specs.Moves.{beforeOf, isOuter, isInner, counted, movesOf}
+use Rattle.slices.specs.OncePerCore.{CoresDiffer, OncePerCore}
 use Rattle.slices.specs.declared.Before.{Before}
 use Rattle.slices.specs.declared.Before.the-variants.{Nothing, Row}
 use Rattle.slices.proofs.Earlier.{before-row, before-none}
@@ -55,7 +56,7 @@ sorts x s = cond (isOuter x s) 1 0 + cond (isInner x s) 1 0 + cond (isFirst x s)
 module _ (n : ℕ) (rows : List Slice) (once : OncePerCore n rows) where
   cores-differ : (b s : Slice) → List·Memᴰ b rows → List·Memᴰ s rows → b .job ≡ s .job → b .start < s .start → SameCore b s → ⊥
   cores-differ b s k m same l =
-      pairs-members (λ (s t : Slice). s .job ≡ t .job → SameCore s t → ⊥) (λ x y h j c. h (sym j) (sym (c .0), sym (c .1))) rows
+      pairs-members CoresDiffer (λ x y h j c. h (sym j) (sym (c .0), sym (c .1))) rows
       (once .cores) (λ e. omega (arith, ap (λ (t : Slice). t .start) e)) k m same
 
   row-once : (s : Slice) → List·Memᴰ s rows → sorts (beforeOf rows s) s ≡ 1

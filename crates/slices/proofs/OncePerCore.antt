@@ -6,26 +6,26 @@ use mathlib.Core.Bool.{Bool, true, false, cond, _&&_}
 use mathlib.Core.List.{List, [], _∷_}
 use Prim.Native.Nat.{ℕ, _+_, _≤_, _<_}
 use native.Mathlib.Omega.{arith}
+use borrow.Author.Tests.{ltb-true, ltb-false}
 use lib.Dec.{eqb, ltb}
 use lib.ListN.{length}
-use borrow.Author.Tests.{ltb-true, ltb-false}
-use Rattle.model.specs.Board.{sameKind}
 use Rattle.rows.specs.Lists.{All, Pairs, countOf}
 use Rattle.rows.proofs.Lists.{all-map, all-at}
+use Rattle.model.specs.Board.{sameKind}
 use Rattle.model.specs.Split.{Ticks, share}
-use Rattle.model.specs.Timetable.{SameCore, Inside, isOf}
+use Rattle.model.specs.Timetable.{Inside, isOf}
 use Rattle.model.specs.declared.Board.{Board}
 use Rattle.model.specs.declared.Kind.{Kind}
 use Rattle.model.specs.declared.Kind.the-variants.{First, Second}
 use Rattle.model.specs.declared.Slice.{Slice}
 use Rattle.slices.specs.Fits.{Fits}
-use Rattle.slices.specs.Moves.{OncePerCore}
+use Rattle.slices.specs.OncePerCore.{CoresDiffer, OncePerCore}
 use Rattle.slices.specs.Table.{Piece, tableOf}
 use Rattle.slices.proofs.Counts.{table-jobs}
 use Rattle.slices.proofs.Cuts.{Cut, cut-cores}
 use Rattle.slices.proofs.Pieces.{shareAt}
 use Rattle.slices.proofs.Places.{Placed}
-use Rattle.slices.proofs.Timetabled.{kind-pairs, table-pairs, table-timetable}
+use Rattle.slices.proofs.Timetabled.{kinds-same-not, kind-pairs, table-pairs, table-timetable}
 
 -- A job with a slice on a kind has a slice.
 count-kind : (kind : Kind) (job : ℕ) (rows : List Slice) → countOf (isOf kind job) rows ≤ countOf (λ (s : Slice). eqb (s .job) job) rows
@@ -42,17 +42,17 @@ module _ (board : Board) (ss : List Ticks) (fits : Fits board ss) where
   w = board .window
 
   runs-cores : (k : Kind) (o e : ℕ) (p q : Piece) (s t : Slice) → o + p .ticks ≤ e → Placed k w ss o p → Placed k w ss e q
-      → Cut k w (p .job) o (o + p .ticks) s → Cut k w (q .job) e (e + q .ticks) t → s .job ≡ t .job → SameCore s t → ⊥
+      → Cut k w (p .job) o (o + p .ticks) s → Cut k w (q .job) e (e + q .ticks) t → CoresDiffer s t
   runs-cores k o e p q s t later h g c d job same =
       let one : p .job ≡ q .job = sym (c .job) ∙ job ∙ d .job in
       let at : o ≡ e = h .at ∙ rw one (sym (g .at)) in
       omega (arith, h .some)
 
-  table-cores : Pairs (λ (s t : Slice). s .job ≡ t .job → SameCore s t → ⊥) (tableOf w ss)
+  table-cores : Pairs CoresDiffer (tableOf w ss)
   table-cores =
-      table-pairs board ss fits (λ (s t : Slice). s .job ≡ t .job → SameCore s t → ⊥)
-      (λ s t e f job same. let z : _≡_ {A = ℕ} 0 1 = cc in omega arith)
-      (λ k. kind-pairs board ss fits k (λ (s t : Slice). s .job ≡ t .job → SameCore s t → ⊥)
+      table-pairs board ss fits CoresDiffer
+      (λ s t e f job same. kinds-same-not s t e f (same .0))
+      (λ k. kind-pairs board ss fits k CoresDiffer
       (λ o p h. cut-cores k w o p (fits .some)) (runs-cores k))
 
   table-each : (job : ℕ) → job < length ss → 0 < shareAt ss job .first + shareAt ss job .second

@@ -7,12 +7,12 @@ use mathlib.Core.List.{List, [], _∷_, _++_}
 use Prim.Native.Nat.{ℕ, _+_, _*_, _≤_, _<_}
 use native.Mathlib.Nat.{lt-of-mul-lt-mul-right}
 use native.Mathlib.Omega.{arith}
+use borrow.Author.Tests.{leb-true, leb-false}
 use lib.Dec.{leb, eqb}
 use lib.ListN.{length, length-append}
-use borrow.Author.Tests.{leb-true, leb-false}
-use Rattle.model.specs.Board.{sameKind}
 use Rattle.rows.specs.Lists.{All, Pairs, sumOf}
 use Rattle.rows.proofs.Lists.{all-map, all-append, pairs-append, sum-append}
+use Rattle.model.specs.Board.{sameKind}
 use Rattle.model.specs.Timetable.{isOf, ticksIn}
 use Rattle.model.specs.declared.Kind.{Kind}
 use Rattle.model.specs.declared.Slice.{Slice}

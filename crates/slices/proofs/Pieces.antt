@@ -5,9 +5,9 @@ use mathlib.Core.Bool.{Bool, true, false, cond, not, _&&_}
 use mathlib.Core.List.{List, [], _∷_}
 use Prim.Native.Nat.{ℕ, zero, suc, _+_, _≤_, _<_}
 use native.Mathlib.Omega.{arith}
+use borrow.Author.Tests.{ltb-false, eq-eqb, ne-eqb}
 use lib.Dec.{ltb, eqb}
 use lib.ListN.{length, getD, take, length-append}
-use borrow.Author.Tests.{ltb-false, eq-eqb, ne-eqb}
 use Rattle.rows.specs.Lists.{sumOf, countOf}
 use Rattle.rows.proofs.Lists.{sum-append}
 use Rattle.model.specs.Movers.{isMover, isEven, movers}

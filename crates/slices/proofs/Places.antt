@@ -5,9 +5,9 @@ use mathlib.Core.Bool.{Bool, true, false, cond, not, _&&_, and-eq-true-iff}
 use mathlib.Core.List.{List, [], _∷_, _++_}
 use Prim.Native.Nat.{ℕ, _+_, _*_, _≤_, _<_}
 use native.Mathlib.Omega.{arith}
+use borrow.Author.Tests.{ltb-true, eqb-true, not-true}
 use lib.Dec.{ltb}
 use lib.ListN.{length, take}
-use borrow.Author.Tests.{ltb-true, eqb-true, not-true}
 use Rattle.rows.specs.Lists.{sumOf, countOf}
 use Rattle.rows.proofs.Lists.{sum-take}
 use Rattle.model.specs.Movers.{isMover, isEven, unevens}

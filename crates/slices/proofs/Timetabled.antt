@@ -9,16 +9,16 @@ use Prim.Native.Nat.{ℕ, _+_, _-_, _*_, _≤_, _<_}
 use native.Mathlib.Nat.{lt-of-mul-lt-mul-right, mul-le-mul-right}
 use native.Mathlib.Omega.{arith}
 use lib.ListN.{length, getD}
-use Rattle.model.proofs.RoomLaws.{room-most}
-use Rattle.model.specs.Board.{on, roomOf, sameKind}
 use Rattle.rows.specs.Lists.{All, Pairs}
 use Rattle.rows.proofs.Lists.{all-map, all-append, all-at, pairs-append, pairs-map, sum-append}
+use Rattle.model.specs.Board.{on, roomOf, sameKind}
 use Rattle.model.specs.Split.{Ticks, share, ticksOn}
 use Rattle.model.specs.Timetable.{Runs, Apart, SameCore, Inside, isOf, ticksIn, Timetable}
 use Rattle.model.specs.declared.Board.{Board}
 use Rattle.model.specs.declared.Kind.{Kind}
 use Rattle.model.specs.declared.Kind.the-variants.{First, Second}
 use Rattle.model.specs.declared.Slice.{Slice}
+use Rattle.model.proofs.RoomLaws.{room-most}
 use Rattle.model.proofs.Movers.{some-mover}
 use Rattle.slices.specs.Fits.{Fits}
 use Rattle.slices.specs.Table.{Piece, piecesOf, cutOf, packed, tableOf}
@@ -30,6 +30,9 @@ use Rattle.slices.proofs.Places.{offset, Placed, pieces-placed, offset-
 -- The slices of a kind.
 abbrev pub rowsOn : Kind → ℕ → List Ticks → List Slice
 rowsOn k w ss = packed k w 0 (piecesOf k w ss)
+
+pub kinds-same-not : (s t : Slice) → s .kind ≡ First → t .kind ≡ Second → s .kind ≡ t .kind → ⊥
+kinds-same-not s t e f same = let z : _≡_ {A = ℕ} 0 1 = cc in omega arith
 
 -- The place of a tick on a core, in the kind's direction.
 abbrev place : Kind → ℕ → ℕ → ℕ
@@ -181,7 +184,7 @@ module _ (board : Board) (ss : List Ticks) where
         (kind-all Second (λ (s : Slice). s .kind ≡ Second) (λ o p s high h cut. cut .kind)) (one First) (one Second)
 
     table-before : Pairs (Before w) (tableOf w ss)
-    table-before = table-pairs (Before w) (λ s t e f same. let z : _≡_ {A = ℕ} 0 1 = cc in omega arith) kind-before
+    table-before = table-pairs (Before w) (λ s t e f same. absurd (kinds-same-not s t e f same)) kind-before
 
     table-served : (kind : Kind) (job : ℕ) → job < length ss
         → ticksIn kind job (tableOf w ss) ≡ ticksOn kind (getD ss job (share 0 0))

@@ -5,13 +5,13 @@ use mathlib.Core.Bool.{Bool, true, false, cond, _&&_}
 use mathlib.Core.List.{List, [], _∷_, List·Memᴰ, List·Memᴰ·head, List·Memᴰ·tail}
 use Prim.Native.Nat.{ℕ, zero, suc, _+_, _≤_, _<_}
 use native.Mathlib.Omega.{arith}
-use lib.Dec.{eqb}
 use borrow.Author.Tests.{ne-eqb, eqb-true, eqb-false}
+use lib.Dec.{eqb}
 use lib.ListN.{length}
 use Rattle.rows.specs.Lists.{All, Pairs, countOf}
-use Rattle.rows.proofs.Lists.{all-map}
 use Rattle.rows.specs.Numbered.{sumBelow}
-use Rattle.rows.proofs.Numbered.{below-add, below-ones, below-zeros}
+use Rattle.rows.proofs.Lists.{all-map}
+use Rattle.rows.proofs.Numbered.{below-add, below-zeros}
 use Rattle.model.specs.declared.Slice.{Slice}
 
 -- A row is counted for its own job alone.

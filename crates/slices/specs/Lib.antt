@@ -1,5 +1,4 @@
 pub mod Table
-pub mod Fits
 pub mod Moves
-pub mod Example
-pub mod ExampleMoves
+pub mod Fits
+pub mod OncePerCore

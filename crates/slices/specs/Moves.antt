@@ -1,22 +1,20 @@
--- The moves of a job inside one window: document 01, "Moves".
+-- The moves of a job inside one window: docs/SPEC.md, "Moves".
 --   isBefore     a row of the same job that starts before a slice
 --   later        of the slice found so far and a row, the one that starts later
---   laterOf, beforeFrom   the slice before, after one row more, and after some rows more
+--   laterOf      the slice before, after one row more
+--   beforeFrom   the slice before, after some rows more
 --   beforeOf     the slice before: of the rows of the same job that start before it, the one that starts last
 --   isOuter      a slice on another kind than the one before
 --   isInner      a slice on another core of the same kind than the one before
---   counted      a slice of a job of which a test holds
+--   counted      a slice of a job of which, with the slice before it, a test holds
 --   movesOf      the outer and the inner moves of a job
---   OncePerCore  every job below n has slices, is in one place at a time, and comes back to no core
 -- Assumes nothing.
 use mathlib.Core.Bool.{Bool, false, cond, not, _&&_}
 use mathlib.Core.List.{List, [], _∷_}
-use mathlib.Core.Path.{_≡_}
-use Prim.Native.Nat.{ℕ, _<_}
+use Prim.Native.Nat.{ℕ}
 use lib.Dec.{eqb, ltb}
+use Rattle.rows.specs.Lists.{countOf}
 use Rattle.model.specs.Board.{sameKind}
-use Rattle.rows.specs.Lists.{All, Pairs, countOf}
-use Rattle.model.specs.Timetable.{Apart, SameCore}
 use Rattle.model.specs.declared.Slice.{Slice}
 use Rattle.slices.specs.declared.Before.{Before}
 use Rattle.slices.specs.declared.Before.the-variants.{Nothing, Row}
@@ -50,16 +48,8 @@ abbrev pub isInner : Before → Slice → Bool
 isInner Nothing s = false
 isInner (Row b) s = sameKind (b .kind) (s .kind) && not (eqb (b .core) (s .core))
 
--- A slice of a job of which, with the slice before it, a test holds.
 abbrev pub counted : (Before → Slice → Bool) → List Slice → ℕ → Slice → Bool
 counted test rows job s = eqb (s .job) job && test (beforeOf rows s) s
 
 abbrev pub movesOf : List Slice → ℕ → Moves
 movesOf rows job = record { outer = countOf (counted isOuter rows job) rows; inner = countOf (counted isInner rows job) rows }
-
-pub record OncePerCore (n : ℕ) (rows : List Slice) : Type 0 where
-  pub some : All (λ (s : Slice). 0 < s .length) rows
-  pub job : All (λ (s : Slice). s .job < n) rows
-  pub each : (job : ℕ) → job < n → 0 < countOf (λ (s : Slice). eqb (s .job) job) rows
-  pub places : Pairs (λ (s t : Slice). s .job ≡ t .job → Apart s t) rows
-  pub cores : Pairs (λ (s t : Slice). s .job ≡ t .job → SameCore s t → ⊥) rows

@@ -1,7 +1,12 @@
--- The table of slices of given shares: document 01, "The slices".
+-- The table of slices of given shares: docs/SPEC.md, "The slices". Its code is planner/src/packing.rt, which has `requires` and is private to that
+-- crate: placing is not public yet.
 -- On each kind the shares stand one behind the other, as runs of positions: position p is tick p % W of core p / W on the first kind,
 -- and tick W − 1 − p % W on the second, which is packed backward. A run that passes the edge of a core is cut there.
 --   Piece        a job and its ticks on a kind
+--   evenMover    a mover that uses the whole window
+--   otherMover   a mover that does not
+--   alone        a share on this kind only
+--   chosen       the jobs, numbered from i, of which a test holds, with their ticks on a kind
 --   piecesOf     what stands on a kind, in order: the even movers, the mover that is not even, and those that are on this kind only
 --   sliceOf      the slice of a job at a place of a core, counted in the kind's direction
 --   cutOf        the one or two slices of a run that begins at a position
@@ -32,7 +37,6 @@ otherMover w s = isMover s && not (isEven w s)
 abbrev pub alone : Kind → Ticks → Bool
 alone k s = ltb 0 (ticksOn k s) && not (isMover s)
 
--- The jobs, numbered from i, of which a test holds, with their ticks on a kind.
 unfoldable pub chosen : (Ticks → Bool) → Kind → ℕ → List Ticks → List Piece
 chosen test k i [] = []
 chosen test k i (s ∷ ss) =

@@ -1,8 +1,8 @@
-// The table of slices of given shares, by Hetero-Wrap of source document 003 over McNaughton's rule, and the moves of a job.
-// Its definitions are specs/Table.antt and specs/Moves.antt; that the table is a timetable is proved of them in proofs/.
-use model::Kind;
-use model::SLICES_MOST;
-use model::Slice;
+// The moves of a job by the rows of a table of slices: docs/SPEC.md, "Moves"; the definition is specs/Moves.antt.
+// The table itself is defined here (specs/Table.antt) and proved to be a timetable (proofs/Timetabled.antt), but the code that makes it is
+// planner/src/packing.rt: it has `requires` and is private to that crate, so placing is not public yet.
+// The table follows Hetero-Wrap over McNaughton's rule (docs/SOURCES.md). Ours takes jobs by number where the paper leaves their order open,
+// and mirrors no window.
 ghost use mathlib.Core.Path.{_≡_};
 ghost use mathlib.Core.Bool.{cond, _&&_};
 ghost use Prim.Native.Nat.{_≤_};
@@ -11,9 +11,12 @@ ghost use lib.ListN.{take};
 ghost use Rattle.model.specs.Board.{sameKind};
 ghost use Rattle.model.specs.Limits.{slicesMost};
 ghost use Rattle.slices.specs.Moves.{isBefore, laterOf, beforeOf, isOuter, isInner, movesOf};
+use model::Kind;
+use model::SLICES_MOST;
+use model::Slice;
 
 // The slice of the same job that runs before a slice in the window, where there is one.
-pub enum Before {
+enum Before {
     Nothing,
     Row(Slice),
 }
@@ -24,10 +27,10 @@ pub struct Moves {
     pub inner: u32,
 }
 
-// Whether two slices are on the same kind.
 fn same_kind(s: Slice, t: Slice) -> bool
     ensures { λ r. ⌜ r ≡ sameKind (s .kind) (t .kind) ⌝ }
 {
+    // a `match` takes an enum that is in a local
     let a = s.kind;
     let b = t.kind;
     match a {
@@ -82,7 +85,7 @@ fn before_of(rows: [Slice; SLICES_MOST], n: usize, s: Slice) -> Before
     while i < n {
         let row = rows[i];
         found = later_of(found, s, row);
-        i = i + 1;
+        i += 1;
     }
     found
 }
@@ -133,9 +136,9 @@ fn count_moves(rows: [Slice; SLICES_MOST], n: usize, job: u8) -> Moves
     while i < n {
         let s = rows[i];
         let before = before_of(rows, n, s);
-        outer = outer + one_if(s, job, is_outer(before, s));
-        inner = inner + one_if(s, job, is_inner(before, s));
-        i = i + 1;
+        outer += one_if(s, job, is_outer(before, s));
+        inner += one_if(s, job, is_inner(before, s));
+        i += 1;
     }
     Moves { outer, inner }
 }

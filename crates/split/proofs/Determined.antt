@@ -11,7 +11,8 @@ use lib.ListN.{length, take, drop, replicate}
 use Rattle.rows.specs.Upto.{upto, at}
 use Rattle.rows.proofs.Upto.{upto-length, upto-map}
 use Rattle.model.specs.Board.{on}
-use Rattle.model.specs.Columns.{sharesIn, ticks}
+use Rattle.model.specs.Columns.{sharesIn}
+use Rattle.model.specs.Terms.{ticks}
 use Rattle.model.specs.Limits.{jobsMost}
 use Rattle.model.specs.Refusal.{Answer}
 use Rattle.model.specs.Split.{Ticks, share, ticksOn}

@@ -8,7 +8,8 @@ use mathlib.Core.List.{List, map}
 use Prim.Native.Nat.{ℕ}
 use lib.ListN.{length, take}
 use Rattle.model.specs.Board.{roomOf}
-use Rattle.model.specs.Columns.{jobsIn, costs, seen}
+use Rattle.model.specs.Columns.{jobsIn, costs}
+use Rattle.model.specs.Terms.{seen}
 use Rattle.model.specs.Limits.{jobsMost}
 use Rattle.model.specs.Refusal.{Answer, given, refused, andThen}
 use Rattle.model.specs.Split.{Ticks}

@@ -49,7 +49,7 @@ use denote.Triple.Table.{entered, cited}
 use denote.Triple.Walked.{says, needs, Stays, stay-none-slice, stay-none, walkOf, goes-none-slice, goes-none, Walks, ends-at, walked, walk-meets}
 use denote.Exit.{yes}
 use denote.Signature.{plain}
-use Rattle.model.specs.Columns.{costOn, first as on-first}
+use Rattle.model.specs.Columns.{costOn, jobFirst as on-first}
 use Rattle.model.specs.Limits.{jobsMost as most}
 use Rattle.model.specs.declared.Kind.{Kind}
 use Rattle.model.specs.declared.Job.{Job}

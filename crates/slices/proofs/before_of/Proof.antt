@@ -6,9 +6,9 @@ use native.Mathlib.Omega.{arith}
 use borrow.Author.Needs.{needs}
 use lib.ListN.{length, take, drop}
 use Rattle.rows.proofs.Walk.{left-cons, left-none}
-use Rattle.slices.specs.Moves.{beforeFrom, beforeOf}
 use Rattle.model.specs.Empty.{noSlice}
 use Rattle.model.specs.Limits.{slicesMost}
+use Rattle.slices.specs.Moves.{beforeFrom, beforeOf}
 use Rattle.slices.proofs.before_of.Statement.{statement}
 use Rattle.slices.proofs.before_of.Tie as tie
 

@@ -6,12 +6,12 @@ use Prim.Native.Nat.{_+_, _-_, _≤_}
 use native.Mathlib.Omega.{arith}
 use borrow.Author.Needs.{needs}
 use lib.ListN.{length, take, drop}
-use Rattle.rows.proofs.Walk.{left-cons, left-none}
 use Rattle.rows.specs.Lists.{countOf}
+use Rattle.rows.proofs.Walk.{left-cons, left-none}
 use Rattle.model.specs.Empty.{noSlice}
+use Rattle.model.specs.Limits.{slicesMost}
 use Rattle.model.specs.declared.Slice.{Slice}
 use Rattle.slices.specs.Moves.{isOuter, isInner, counted}
-use Rattle.model.specs.Limits.{slicesMost}
 use Rattle.slices.proofs.count_moves.Statement.{statement}
 use Rattle.slices.proofs.count_moves.Tie as tie
 
