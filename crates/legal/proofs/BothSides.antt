@@ -8,13 +8,13 @@ use mathlib.Core.List.{[], _∷_, map}
 use mathlib.Core.Path.{_≡_, refl}
 use Prim.Native.Nat.{ℕ}
 use native.Mathlib.Omega.{arith}
+use Rattle.rows.specs.Lists.{lowest}
 use Rattle.model.specs.Refusal.{given, refused}
 use Rattle.model.specs.declared.Board.{Board}
 use Rattle.model.specs.declared.Job.{Job}
 use Rattle.model.proofs.BothSides.{B, F, S}
 use Rattle.legal.specs.Lawful.{LegalJob, Lawful}
 use Rattle.legal.specs.Legal.{legalOf}
-use Rattle.rows.specs.Lists.{lowest}
 
 -- ==== LegalJob: in a window of 10 and, for the greatest cost, in one that is longer than it
 pub first-least : LegalJob 10 (F 1)

@@ -1,10 +1,12 @@
-// Which sets of jobs are legal: checks 1 to 5 of document 01, each over all jobs before the next, by number and place.
+// Which sets of jobs are legal: checks 1 to 5 of docs/SPEC.md, "Which sets are legal". Each check looks at all jobs before the next begins, and
+// the first that is not passed gives the refusal, by number and place. The definition is specs/Legal.antt; proofs/Lib.antt is the guide to its laws.
 ghost use mathlib.Core.Path.{_≡_};
 ghost use Prim.Native.Nat.{_≤_};
+ghost use Rattle.rows.specs.Lists.{lowest};
 ghost use Rattle.model.specs.Columns.{jobAt, jobsIn};
 ghost use Rattle.model.specs.Limits.{jobsMost};
-ghost use Rattle.legal.specs.Legal.{outside, badCost, tooLong, failsOf, legalOf, saysChecked};
-ghost use Rattle.rows.specs.Lists.{lowest};
+ghost use Rattle.legal.specs.Failing.{failsOf};
+ghost use Rattle.legal.specs.Legal.{outside, badCost, tooLong, legalOf, saysChecked};
 use model::Board;
 use model::CORES_MOST;
 use model::COST_MOST;
@@ -19,7 +21,7 @@ pub enum Checked {
 }
 
 // The two checks that go over the jobs.
-pub enum Test {
+enum Test {
     Cost,
     Long,
 }
@@ -66,7 +68,6 @@ fn too_long(w: u32, first: u32, second: u32) -> bool
     w < second
 }
 
-// Whether a job fails a check.
 fn fails(test: Test, w: u32, first: u32, second: u32) -> bool
     ensures { λ r. ⌜ r ≡ failsOf test w (jobAt first second) ⌝ }
 {
@@ -92,7 +93,7 @@ fn lowest_failing(
         if fails(test, w, first[i], second[i]) {
             return i;
         }
-        i = i + 1;
+        i += 1;
     }
     i
 }

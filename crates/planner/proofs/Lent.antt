@@ -1,4 +1,5 @@
--- The promise of the planning call over lent tables, from what it knows of its callees. The walk of `plan` calls `lent` and looks at nothing else of the promise.
+-- The promise of the planning call over lent tables, from what it knows of its callees. The walk of `plan` calls `lent` and looks at nothing
+-- else of the promise.
 --     read       the column of a kind that `costs_in` makes of the first jobs of a slice
 --     few-fits   as many jobs as `at_most_a_set` gives fit a set, and are there
 --     plan-read  the plan of what was read is the plan of the slice: all of it was read, or it has too many jobs to be looked at
@@ -7,16 +8,14 @@
 use mathlib.Core.Path.{_≡_, refl, sym, ap, _∙_}
 use mathlib.Core.Bool.{Bool, true, false, cond, _||_}
 use mathlib.Core.List.{List, _++_, map}
-use Prim.Native.Nat.{ℕ, _-_, _≤_, _<_, min}
+use Prim.Native.Nat.{ℕ, _-_, _≤_, min}
 use native.Mathlib.Omega.{arith}
-use borrow.Author.Tests.{leb-true, leb-false, lt-ltb}
-use lib.Dec.{leb, ltb}
+use lib.Dec.{ltb}
 use lib.ListN.{length, take, drop, replicate, length-map}
 use lib.Seq.{take-append-seam, take-length}
-use Rattle.model.specs.Board.{roomOf}
+use Rattle.rows.specs.Lists.{front}
 use Rattle.model.specs.Columns.{costOn, jobsIn, sharesIn as sharesFrom}
-use Rattle.model.specs.Terms.{seen}
-use Rattle.model.specs.Limits.{windowMost, coresMost, jobsMost}
+use Rattle.model.specs.Limits.{jobsMost}
 use Rattle.model.specs.Packed.{slicesIn as slicesFrom}
 use Rattle.model.specs.Refusal.{Answer, given, refused, andThen}
 use Rattle.model.specs.ShareRow.{rowOf, ticksOfRow}
@@ -29,13 +28,11 @@ use Rattle.model.specs.declared.Share.{Share}
 use Rattle.model.specs.declared.Slice.{Slice}
 use Rattle.model.proofs.Columns.{costs-back}
 use Rattle.model.proofs.ShareRow.{rows-back}
-use Rattle.legal.specs.Legal.{outside, legalOf}
-use Rattle.slices.specs.Table.{tableOf}
-use Rattle.split.specs.Shares.{splitOf, sharesOf}
+use Rattle.split.specs.Shares.{sharesOf}
 use Rattle.split.proofs.Demands.{demands, exactly}
-use Rattle.split.proofs.Seen.{shares-seen}
+use Rattle.split.proofs.Seen.{shares-read}
+use Rattle.slices.specs.Table.{tableOf}
 use Rattle.planner.specs.Plan.{Plan, Counts, fitted, planOf, sharesIn, slicesIn, countsIn, saysPlanned}
-use Rattle.rows.specs.Lists.{front}
 use Rattle.planner.specs.Promise.{Filled, Unchanged, Served, Promised}
 use Rattle.planner.specs.declared.Planned.{Planned}
 use Rattle.planner.specs.declared.Planned.the-variants.{Plan as Counted, Refused}
@@ -48,50 +45,13 @@ read kind js few = map (costOn kind) (take few js) ++ replicate (jobsMost - few)
 pub few-fits : (count few : ℕ) → few ≡ min count jobsMost → (few ≤ jobsMost) × (few ≤ count)
 few-fits count few e = (omega (arith, e), omega (arith, e))
 
--- ---- what was read
-abbrev many : Board → Answer (Unit {0})
-many board =
-    cond (outside windowMost (board .window)) (refused 1 0)
-    (cond (outside coresMost (board .first) || outside coresMost (board .second)) (refused 2 0) (refused 3 jobsMost))
-
-legal-many : (board : Board) (n : ℕ) (js : List Job) → jobsMost < n → legalOf board n js ≡ many board
-unfolding legalOf
-legal-many board n js h = rw (lt-ltb jobsMost n h)
-
-plan-many : (board : Board) (n : ℕ) (xs ys : List Job) (m k : ℕ) → jobsMost < n → planOf board n xs m k ≡ planOf board n ys m k
-plan-many board n xs ys m k h =
-    rw (legal-many board n xs h, legal-many board n ys h)
-    (go (outside windowMost (board .window)) (outside coresMost (board .first) || outside coresMost (board .second)))
-  where
-    made : List Ticks → Answer Plan
-    made ss = fitted m k (record { shares = ss; slices = tableOf (board .window) ss })
-
-    from : List Job → Unit {0} → Answer (List Ticks)
-    from js _ = splitOf (board .window) (roomOf board First) (roomOf board Second) js
-
-    go : (s t : Bool)
-        → andThen (andThen (cond s (refused 1 0) (cond t (refused 2 0) (refused 3 jobsMost))) (from xs)) made
-        ≡ andThen (andThen (cond s (refused 1 0) (cond t (refused 2 0) (refused 3 jobsMost))) (from ys)) made
-    go true t = refl
-    go false true = refl
-    go false false = refl
-
-plan-seen : (board : Board) (n : ℕ) (js : List Job) (m k : ℕ) → planOf board n (map seen js) m k ≡ planOf board n js m k
-plan-seen board n js m k =
-    ap (λ (x : Answer (List Ticks)). andThen x (λ (ss : List Ticks). fitted m k (record { shares = ss; slices = tableOf (board .window) ss })))
-    (shares-seen board n js)
-
+-- ---- what was read: all jobs of a set, or some of more than a set may have, which are not looked at
 plan-read : (board : Board) (js : List Job) (m k few : ℕ) → few ≡ min (length js) jobsMost
     → planOf board (length js) (jobsIn (length js) (read First js few) (read Second js few)) m k ≡ planOf board (length js) js m k
-plan-read board js m k few e = go (leb (length js) jobsMost) refl
-  where
-    go : (t : Bool) → leb (length js) jobsMost ≡ t
-        → planOf board (length js) (jobsIn (length js) (read First js few) (read Second js few)) m k ≡ planOf board (length js) js m k
-    go true t =
-        let fits : length js ≤ jobsMost = leb-true (length js) jobsMost t in
-        let all : few ≡ length js = omega arith in
-        ap (λ (xs : List Job). planOf board (length js) xs m k) (rw (all, take-length js) (costs-back js fits)) ∙ plan-seen board (length js) js m k
-    go false t = plan-many board (length js) _ js m k (leb-false _ _ t)
+plan-read board js m k few e =
+    ap (λ (x : Answer (List Ticks)). andThen x (λ (ss : List Ticks). fitted m k (record { shares = ss; slices = tableOf (board .window) ss })))
+    (shares-read board (length js) _ js
+    (λ fits. let all : few ≡ length js = omega arith in rw (all, take-length js) (costs-back js fits)))
 
 -- ---- the demands
 never : {A : Type 0} → _≡_ {A = ℕ} 0 1 → A

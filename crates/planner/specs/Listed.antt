@@ -14,11 +14,12 @@ use mathlib.Core.List.{List}
 use mathlib.Core.Logic.{_⊎_}
 use mathlib.Core.Path.{_≡_}
 use Prim.Native.Nat.{ℕ, _+_, _*_, _≤_, _<_}
-use lib.ListN.{length, getD}
+use lib.ListN.{length}
+use Rattle.rows.specs.Lists.{All}
+use Rattle.rows.specs.Numbered.{LowestIn}
 use Rattle.model.specs.Board.{roomOf}
 use Rattle.model.specs.Empty.{noJob}
 use Rattle.model.specs.Limits.{windowMost, coresMost, jobsMost, costMost}
-use Rattle.rows.specs.Lists.{All}
 use Rattle.model.specs.Refusal.{Answer, given, refused}
 use Rattle.model.specs.Split.{Ticks}
 use Rattle.model.specs.declared.Kind.the-variants.{First, Second}
@@ -26,8 +27,8 @@ use Rattle.model.specs.declared.Board.{Board}
 use Rattle.model.specs.declared.Job.{Job}
 use Rattle.model.specs.declared.Job.the-variants.{Both, OnlyFirst, OnlySecond}
 use Rattle.legal.specs.Lawful.{Lawful}
-use Rattle.slices.specs.Table.{tableOf}
 use Rattle.split.specs.Shares.{splitOf}
+use Rattle.slices.specs.Table.{tableOf}
 
 abbrev pub Outside : ℕ → ℕ → Type 0
 Outside most x = (x < 1) ⊎ (most < x)
@@ -42,10 +43,8 @@ TooLong w (Both c1 c2) = (w < c1 .0) × (w < c2 .0)
 TooLong w (OnlyFirst c1) = w < c1 .0
 TooLong w (OnlySecond c2) = w < c2 .0
 
-pub record LowestOf (Bad : Job → Type 0) (js : List Job) (job : ℕ) : Type 0 where
-  pub there : job < length js
-  pub bad : Bad (getD js job noJob)
-  pub lower : (i : ℕ) → i < job → Bad (getD js i noJob) → ⊥
+abbrev pub LowestOf : (Job → Type 0) → List Job → ℕ → Type 0
+LowestOf Bad js job = LowestIn noJob Bad js job
 
 pub record Sound (board : Board) : Type 0 where
   pub window : Outside windowMost (board .window) → ⊥

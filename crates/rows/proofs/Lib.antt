@@ -5,6 +5,10 @@
 pub mod BothSides
 -- What is said of all elements, of every two, and sums: from element to element, and of two lists one behind the other.
 pub mod Lists
+-- Tests that are computed, and the facts that they tell.
+pub mod Tells
+-- The first element that a test holds of: its laws, and the walk that looks for it.
+pub mod Lowest
 -- The same of the members of a list.
 pub mod Members
 -- Lists of a function's values, and a column that is filled from its start.

@@ -1,21 +1,18 @@
--- `legal::lowest_failing` meets its contract. The invariant: the place, with the lowest failing of the jobs that are left, is the lowest failing of all.
+-- `legal::lowest_failing` meets its contract. The invariant: the walk has come to place i, and found no job before it.
 -- Assumes nothing.
-use mathlib.Core.Path.{_≡_, sym, _∙_}
-use Prim.Native.Nat.{_+_, _-_, _≤_}
+use mathlib.Core.Path.{sym, _∙_}
+use Prim.Native.Nat.{_-_, _≤_}
 use native.Mathlib.Omega.{arith}
 use borrow.Author.Needs.{needs}
-use lib.ListN.{drop}
-use Rattle.model.specs.Columns.{jobAt, jobsIn}
 use Rattle.rows.specs.Upto.{at}
-use Rattle.rows.proofs.Upto.{upto-left, upto-none}
-use Rattle.rows.specs.Lists.{lowest}
-use Rattle.legal.specs.Legal.{failsOf}
+use Rattle.rows.proofs.Lowest.{SoughtTo, sought-here, sought-on, sought-all}
+use Rattle.model.specs.Columns.{jobAt}
+use Rattle.legal.specs.Failing.{failsOf}
 use Rattle.legal.proofs.lowest_failing.Statement.{statement}
 use Rattle.legal.proofs.lowest_failing.Tie as tie
 
 abbrev Inv-loop : tie.InvT-loop
-Inv-loop test w first second n i₀ i =
-    (i ≤ n) × (i + lowest (failsOf test w) (drop i (jobsIn n first second)) ≡ lowest (failsOf test w) (jobsIn n first second))
+Inv-loop test w first second n i₀ i = (i ≤ n) × SoughtTo (failsOf test w) n (λ k. jobAt (at first k) (at second k)) i
 
 abbrev μ-loop : tie.MeasureT-loop
 μ-loop test w first second n i₀ i = n - i
@@ -39,12 +36,10 @@ fails-requires : tie.Need-fails-requires Inv-loop μ-loop
 fails-requires c κs = search needs
 
 returns : tie.Need-returns Inv-loop μ-loop
-unfolding lowest
 returns c =
     let a = c .before .before .before .before .before .before .args in
     let l = c .before .before .before .before .before .loop in
-    let e = rw (upto-left (a .n) (λ i. jobAt (at (a .first .now) i) (at (a .second .now) i)) (l .i) (omega arith), sym (c .before .fails .ensures) ∙ c .if1 .taken) at (l .inv .1) in
-    omega arith
+    sought-here _ (a .n) _ (l .i) (l .inv .1) (omega arith) (sym (c .before .fails .ensures) ∙ c .if1 .taken)
 
 add-i : tie.Need-add-i Inv-loop μ-loop
 add-i c = search needs
@@ -53,21 +48,15 @@ loop-less : tie.Need-loop-less Inv-loop μ-loop
 loop-less c = search needs
 
 loop-again : tie.Need-loop-again Inv-loop μ-loop
-unfolding lowest
 loop-again c =
     let a = c .before .before .before .before .before .before .args in
     let l = c .before .before .before .before .before .loop in
-    let e = rw (upto-left (a .n) (λ i. jobAt (at (a .first .now) i) (at (a .second .now) i)) (l .i) (omega arith), sym (c .before .fails .ensures) ∙ c .if1 .left) at (l .inv .1) in
-    (omega arith, omega arith)
+    (omega arith, sought-on _ (a .n) _ (l .i) (l .inv .1) (omega arith) (sym (c .before .fails .ensures) ∙ c .if1 .left))
 
 returns-2 : tie.Need-returns-2 Inv-loop μ-loop
-unfolding lowest
 returns-2 c =
-    let a = c .before .before .args in
     let l = c .before .loop in
-    let end : l .i ≡ a .n = omega arith in
-    let e = rw (end, upto-none (a .n) (λ i. jobAt (at (a .first .now) i) (at (a .second .now) i))) at (l .inv .1) in
-    omega arith
+    sought-all _ (c .before .before .args .n) _ (l .i) (l .inv .1) (omega arith)
 
 pub lowest-failing-spec : {M : Type 1} → statement M
 lowest-failing-spec =
