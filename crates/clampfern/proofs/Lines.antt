@@ -27,7 +27,7 @@ use Rattle.text.specs.Output.{planText, refusedText, refusalText, Writes}
 use Rattle.text.specs.declared.Reading.{Reading}
 use Rattle.text.specs.declared.Reading.the-variants.{Set, Refused as Unread}
 use Rattle.text.specs.declared.Written.{Written}
-use Rattle.planner.specs.Plan.{Plan, Counts, fitted, planOf, columnsOf, sharesIn, slicesIn, countsIn, saysPlanned}
+use Rattle.planner.specs.Plan.{Plan, Counts, fitted, planOf, columnsOf, sharesGiven as sharesIn, slicesGiven as slicesIn, countsIn, saysPlanned}
 use Rattle.rows.specs.Lists.{front}
 use Rattle.planner.specs.Promise.{Columned}
 use Rattle.planner.specs.declared.Planned.{Planned}

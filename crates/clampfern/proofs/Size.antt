@@ -15,7 +15,7 @@ use Rattle.text.specs.Input.{Input, jobIn, entryOf, jobsFrom, inputFrom, inputO
 use Rattle.text.specs.Output.{answerMost}
 use Rattle.text.proofs.PlanText.{plan-length}
 use Rattle.planner.specs.Most.{board, jobs, most-slices}
-use Rattle.planner.specs.Plan.{Plan, planOf, slicesIn}
+use Rattle.planner.specs.Plan.{Plan, planOf, slicesGiven as slicesIn}
 use Rattle.planner.proofs.Plans.{plan-kept}
 use Rattle.clampfern.specs.Answer.{planned, linesFor, answerText}
 use Rattle.clampfern.proofs.Bounds.{small}

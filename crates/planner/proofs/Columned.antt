@@ -16,13 +16,13 @@ use lib.Dec.{ltb}
 use lib.ListN.{length, take, drop, length-map}
 use lib.Seq.{length-take-le}
 use Rattle.model.specs.Board.{on, coresOf}
-use Rattle.model.specs.Columns.{sharesIn as sharesFrom}
+use Rattle.model.specs.Columns.{sharesIn}
 use Rattle.rows.specs.Upto.{upto, at}
 use Rattle.rows.specs.Lists.{All, front}
 use Rattle.rows.proofs.Upto.{upto-length, upto-map}
 use Rattle.rows.proofs.Lists.{all-map}
 use Rattle.model.specs.Limits.{coresMost, jobsMost, slicesMost}
-use Rattle.model.specs.Packed.{packOf, sliceIn, slicesIn as slicesFrom, Narrow}
+use Rattle.model.specs.Packed.{packOf, sliceIn, slicesIn, Narrow}
 use Rattle.model.specs.Refusal.{Answer, given, refused, saysRefusal, andThen}
 use Rattle.model.specs.Split.{Ticks, share, ticksOn}
 use Rattle.model.specs.Timetable.{Inside}
@@ -39,7 +39,7 @@ use Rattle.slices.specs.Table.{tableOf}
 use Rattle.slices.proofs.Timetabled.{table-timetable}
 use Rattle.split.specs.Shares.{sharesOf}
 use Rattle.planner.specs.Packing.{Tabled}
-use Rattle.planner.specs.Plan.{Plan, Counts, planOf, sharesIn, slicesIn, countsIn, saysPlanned, short, columnsOf, noRows, fitOf}
+use Rattle.planner.specs.Plan.{Plan, Counts, planOf, sharesGiven, slicesGiven, countsIn, saysPlanned, short, columnsOf, noRows, fitOf}
 use Rattle.planner.specs.Promise.{Columned, Filled}
 use Rattle.planner.specs.declared.Fitted.{Fitted}
 use Rattle.planner.specs.declared.Planned.{Planned}
@@ -52,31 +52,31 @@ upto-take zero l h = refl
 upto-take (suc n) [] h = absurd (not-suc-le-zero h)
 upto-take (suc n) (x ∷ l) h = ap (λ (t : List ℕ). x ∷ t) (upto-take n l (le-of-suc-le-suc h))
 
-pub slices-take : (n : ℕ) (l : List ℕ) → n ≤ length l → slicesFrom n l ≡ take n (map sliceIn l)
+pub slices-take : (n : ℕ) (l : List ℕ) → n ≤ length l → slicesIn n l ≡ take n (map sliceIn l)
 slices-take zero l h = refl
 slices-take (suc n) [] h = absurd (not-suc-le-zero h)
 slices-take (suc n) (x ∷ l) h = ap (λ (t : List Slice). sliceIn x ∷ t) (slices-take n l (le-of-suc-le-suc h))
 
-ticks-back : (k : Kind) (n : ℕ) (a b : List ℕ) → n ≤ length (on k a b) → map (ticksOn k) (sharesFrom n a b) ≡ take n (on k a b)
+ticks-back : (k : Kind) (n : ℕ) (a b : List ℕ) → n ≤ length (on k a b) → map (ticksOn k) (sharesIn n a b) ≡ take n (on k a b)
 ticks-back First n a b h = upto-map (ticksOn First) n (λ i. share (at a i) (at b i)) ∙ upto-take n a h
 ticks-back Second n a b h = upto-map (ticksOn Second) n (λ i. share (at a i) (at b i)) ∙ upto-take n b h
 
-pub shares-front : (ss : List Ticks) (l m : List ℕ) → sharesFrom (length ss) (map (ticksOn First) ss ++ l) (map (ticksOn Second) ss ++ m) ≡ ss
+pub shares-front : (ss : List Ticks) (l m : List ℕ) → sharesIn (length ss) (map (ticksOn First) ss ++ l) (map (ticksOn Second) ss ++ m) ≡ ss
 shares-front [] l m = refl
 shares-front (s ∷ ss) l m = ap (λ (t : List Ticks). s ∷ t) (shares-front ss l m)
 
-pub slices-front : (ls : List Slice) (l : List ℕ) → All Narrow ls → slicesFrom (length ls) (map packOf ls ++ l) ≡ ls
+pub slices-front : (ls : List Slice) (l : List ℕ) → All Narrow ls → slicesIn (length ls) (map packOf ls ++ l) ≡ ls
 slices-front [] l narrow = refl
 slices-front (s ∷ ls) l narrow = rw (packed-back s (narrow .0), slices-front ls l (narrow .1))
 
 -- Columns whose first numbers were put into others have the same shares there.
 module _ (count : ℕ) (a b s1 s2 s1′ s2′ : List ℕ) (fits1 : count ≤ length a) (fits2 : count ≤ length b)
     (put1 : s1′ ≡ take count a ++ drop count s1) (put2 : s2′ ≡ take count b ++ drop count s2) where
-  pub put-same : sharesFrom count s1′ s2′ ≡ sharesFrom count a b
+  pub put-same : sharesIn count s1′ s2′ ≡ sharesIn count a b
   put-same =
       rw (put1, put2)
       (rw (upto-length count (λ i. share (at a i) (at b i)), ticks-back First count a b fits1, ticks-back Second count a b fits2) at
-      (shares-front (sharesFrom count a b) (drop count s1) (drop count s2)))
+      (shares-front (sharesIn count a b) (drop count s1) (drop count s2)))
 
 -- ---- the slices of a plan have their bytes
 module _ (board : Board) (n : ℕ) (js : List Job) (law : Lawful board n js) where
@@ -121,9 +121,9 @@ module _ (board : Board) (n : ℕ) (js : List Job) (s1 s2 rows : List ℕ) where
   columned-none r e =
       record {
         says = ap countsIn e;
-        first = ap (λ (x : Answer Plan). front (map (ticksOn First) (sharesIn x)) s1) e;
-        second = ap (λ (x : Answer Plan). front (map (ticksOn Second) (sharesIn x)) s2) e;
-        slices = ap (λ (x : Answer Plan). front (map packOf (slicesIn x)) rows) e;
+        first = ap (λ (x : Answer Plan). front (map (ticksOn First) (sharesGiven x)) s1) e;
+        second = ap (λ (x : Answer Plan). front (map (ticksOn Second) (sharesGiven x)) s2) e;
+        slices = ap (λ (x : Answer Plan). front (map packOf (slicesGiven x)) rows) e;
       }
 
   -- A set that gets no shares, and columns that are too short.
@@ -137,23 +137,23 @@ module _ (board : Board) (n : ℕ) (js : List Job) (s1 s2 rows : List ℕ) where
   columned-short is e = columned-none TooShort (rw (is, e) refl)
 
   -- The shares of two columns a and b, put into those that are lent.
-  pub columned-plan : (count r : ℕ) (a b s1′ s2′ rows′ : List ℕ) → count ≤ length a → count ≤ length b → sharesOf board n js ≡ given (sharesFrom count a b)
+  pub columned-plan : (count r : ℕ) (a b s1′ s2′ rows′ : List ℕ) → count ≤ length a → count ≤ length b → sharesOf board n js ≡ given (sharesIn count a b)
       → short (length s1) (length s2) (length rows) ≡ false → s1′ ≡ take count a ++ drop count s1 → s2′ ≡ take count b ++ drop count s2
-      → Tabled (board .window) (sharesFrom count s1′ s2′) rows rows′ r → Columned board n js s1 s2 rows (Counted count r) s1′ s2′ rows′
+      → Tabled (board .window) (sharesIn count s1′ s2′) rows rows′ r → Columned board n js s1 s2 rows (Counted count r) s1′ s2′ rows′
   columned-plan count r a b s1′ s2′ rows′ fits1 fits2 is enough put1 put2 tabled′ =
-      let ss : List Ticks = sharesFrom count a b in
+      let ss : List Ticks = sharesIn count a b in
       let tabled : Tabled (board .window) ss rows rows′ r = rw (put-same count a b s1 s2 s1′ s2′ fits1 fits2 put1 put2) at tabled′ in
       let size : count ≡ length ss = sym (upto-length count (λ i. share (at a i) (at b i))) in
       let plan : given (made ss) ≡ answer = rw (is, enough) refl in
       record {
         says = ap (λ (x : ℕ). given (record { jobs = x; slices = r })) size ∙ rw (tabled .count) (ap countsIn plan);
-        first = put1 ∙ put First s1 a fits1 (ticks-back First count a b fits1) ∙ ap (λ (x : Answer Plan). front (map (ticksOn First) (sharesIn x)) s1) plan;
-        second = put2 ∙ put Second s2 b fits2 (ticks-back Second count a b fits2) ∙ ap (λ (x : Answer Plan). front (map (ticksOn Second) (sharesIn x)) s2) plan;
-        slices = tabled .slices ∙ rw (tabled .count, ← length-map (tableOf (board .window) ss) packOf) (ap (λ (x : Answer Plan). front (map packOf (slicesIn x)) rows) plan);
+        first = put1 ∙ put First s1 a fits1 (ticks-back First count a b fits1) ∙ ap (λ (x : Answer Plan). front (map (ticksOn First) (sharesGiven x)) s1) plan;
+        second = put2 ∙ put Second s2 b fits2 (ticks-back Second count a b fits2) ∙ ap (λ (x : Answer Plan). front (map (ticksOn Second) (sharesGiven x)) s2) plan;
+        slices = tabled .slices ∙ rw (tabled .count, ← length-map (tableOf (board .window) ss) packOf) (ap (λ (x : Answer Plan). front (map packOf (slicesGiven x)) rows) plan);
       }
     where
-      put : (k : Kind) (l c : List ℕ) → count ≤ length c → map (ticksOn k) (sharesFrom count a b) ≡ take count c
-          → take count c ++ drop count l ≡ front (map (ticksOn k) (sharesFrom count a b)) l
+      put : (k : Kind) (l c : List ℕ) → count ≤ length c → map (ticksOn k) (sharesIn count a b) ≡ take count c
+          → take count c ++ drop count l ≡ front (map (ticksOn k) (sharesIn count a b)) l
       put k l c fits e = rw (e, length-take-le count c fits)
 
   -- ---- the tables
@@ -163,10 +163,10 @@ module _ (board : Board) (n : ℕ) (js : List Job) (s1 s2 rows : List ℕ) where
     filled-none r s1′ s2′ rows′ e =
         record {
           says = ap countsIn e;
-          shared = ap (λ (x : Answer Plan). length (sharesIn x)) e;
-          sliced = ap (λ (x : Answer Plan). length (slicesIn x)) e;
-          shares = ap sharesIn e;
-          slices = ap slicesIn e;
+          shared = ap (λ (x : Answer Plan). length (sharesGiven x)) e;
+          sliced = ap (λ (x : Answer Plan). length (slicesGiven x)) e;
+          shares = ap sharesGiven e;
+          slices = ap slicesGiven e;
           few-shares = omega arith;
           fit-shares = omega arith;
           few-slices = omega arith;
@@ -181,9 +181,9 @@ module _ (board : Board) (n : ℕ) (js : List Job) (s1 s2 rows : List ℕ) where
       pub filled : (r : Planned) (f : Fitted) → Columned board n js s1 s2 rows r s1′ s2′ rows′ → f ≡ fitOf r m k → Filled board n js m k (tables f)
       filled r f c e =
           rw e
-          (go (sharesOf board n js) refl r (c .says ∙ ap countsIn roomy) (c .first ∙ ap (λ (x : Answer Plan). front (map (ticksOn First) (sharesIn x)) s1) roomy)
-          (c .second ∙ ap (λ (x : Answer Plan). front (map (ticksOn Second) (sharesIn x)) s2) roomy)
-          (c .slices ∙ ap (λ (x : Answer Plan). front (map packOf (slicesIn x)) rows) roomy))
+          (go (sharesOf board n js) refl r (c .says ∙ ap countsIn roomy) (c .first ∙ ap (λ (x : Answer Plan). front (map (ticksOn First) (sharesGiven x)) s1) roomy)
+          (c .second ∙ ap (λ (x : Answer Plan). front (map (ticksOn Second) (sharesGiven x)) s2) roomy)
+          (c .slices ∙ ap (λ (x : Answer Plan). front (map packOf (slicesGiven x)) rows) roomy))
         where
           all : Answer (List Ticks) → Answer Plan
           all x = andThen x (λ (ss : List Ticks). given (made ss))
@@ -205,10 +205,10 @@ module _ (board : Board) (n : ℕ) (js : List Job) (s1 s2 rows : List ℕ) where
               let inside = table-timetable board ss (accepted-fits board n js ss law (shares-accepted board n js is)) .inside in
               record {
                 says = rw (jobs-are, count-is) (sym (ap countsIn e));
-                shared = jobs-are ∙ sym (ap (λ (x : Answer Plan). length (sharesIn x)) e);
-                sliced = count-is ∙ sym (ap (λ (x : Answer Plan). length (slicesIn x)) e);
-                shares = rw (jobs-are, first, second) (shares-front ss _ _) ∙ sym (ap sharesIn e);
-                slices = rw (count-is, slices) (slices-front (tableOf (board .window) ss) _ (inside-narrow board n js law (length ss) (asks .few) (tableOf (board .window) ss) inside)) ∙ sym (ap slicesIn e);
+                shared = jobs-are ∙ sym (ap (λ (x : Answer Plan). length (sharesGiven x)) e);
+                sliced = count-is ∙ sym (ap (λ (x : Answer Plan). length (slicesGiven x)) e);
+                shares = rw (jobs-are, first, second) (shares-front ss _ _) ∙ sym (ap sharesGiven e);
+                slices = rw (count-is, slices) (slices-front (tableOf (board .window) ss) _ (inside-narrow board n js law (length ss) (asks .few) (tableOf (board .window) ss) inside)) ∙ sym (ap slicesGiven e);
                 few-shares = omega (arith, asks .few);
                 fit-shares = ltb-false _ _ a;
                 few-slices = omega (arith, asks .rows);
@@ -216,8 +216,8 @@ module _ (board : Board) (n : ℕ) (js : List Job) (s1 s2 rows : List ℕ) where
               }
 
           go : (x : Answer (List Ticks)) → sharesOf board n js ≡ x → (r : Planned) → saysPlanned r ≡ countsIn (all x)
-              → s1′ ≡ front (map (ticksOn First) (sharesIn (all x))) s1 → s2′ ≡ front (map (ticksOn Second) (sharesIn (all x))) s2
-              → rows′ ≡ front (map packOf (slicesIn (all x))) rows → Filled board n js m k (tables (fitOf r m k))
+              → s1′ ≡ front (map (ticksOn First) (sharesGiven (all x))) s1 → s2′ ≡ front (map (ticksOn Second) (sharesGiven (all x))) s2
+              → rows′ ≡ front (map packOf (slicesGiven (all x))) rows → Filled board n js m k (tables (fitOf r m k))
           go (refused number place) is (Counted jobs count) says first second slices = never (cc)
           go (refused number place) is (Refused r) says first second slices =
               let refusal : saysRefusal {A = Plan} r ≡ refused number place = cc in

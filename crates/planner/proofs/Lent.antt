@@ -33,7 +33,7 @@ use Rattle.slices.specs.Table.{tableOf}
 use Rattle.split.specs.Shares.{splitOf, sharesOf}
 use Rattle.split.proofs.Demands.{demands, exactly}
 use Rattle.split.proofs.Seen.{shares-seen}
-use Rattle.planner.specs.Plan.{Plan, Counts, fitted, planOf, sharesIn, slicesIn, countsIn, saysPlanned}
+use Rattle.planner.specs.Plan.{Plan, Counts, fitted, planOf, sharesGiven as sharesIn, slicesGiven as slicesIn, countsIn, saysPlanned}
 use Rattle.rows.specs.Lists.{front}
 use Rattle.planner.specs.Promise.{Filled, Unchanged, Served, Promised}
 use Rattle.planner.specs.declared.Planned.{Planned}

@@ -37,7 +37,7 @@ use Rattle.slices.proofs.OncePerCore.{table-once}
 use Rattle.split.specs.Shares.{sharesOf}
 use Rattle.split.proofs.Demands.{shares-numbered}
 use Rattle.planner.specs.PlanMoves.{movesBelow, movesIn, outers, inners, noMoves, roomyPlan, MovesPromised}
-use Rattle.planner.specs.Plan.{Plan, fitted, planOf, sharesIn, slicesIn, countsIn}
+use Rattle.planner.specs.Plan.{Plan, fitted, planOf, sharesGiven, slicesGiven, countsIn}
 use Rattle.planner.specs.Promise.{Filled}
 use Rattle.planner.specs.declared.Tables.{Tables}
 use Rattle.planner.proofs.Columned.{slices-take}
@@ -64,7 +64,7 @@ module _ (rows : List Slice) where
   below-sum f (suc n) = omega (arith, sum-append f (movesBelow rows n) (movesOf rows n ∷ []), below-sum f n)
 
 -- ---- the code's tables
-moves-in : (x : Answer Plan) → movesIn x ≡ movesBelow (slicesIn x) (length (sharesIn x))
+moves-in : (x : Answer Plan) → movesIn x ≡ movesBelow (slicesGiven x) (length (sharesGiven x))
 unfolding movesBelow
 moves-in (given p) = refl
 moves-in (refused number place) = refl
@@ -79,9 +79,9 @@ moving-filled board n ks js t rows moves same f there rows-are e =
     let x : Answer Plan = roomyPlan board n ks in
     let plan : x ≡ roomyPlan board n js =
     ap (λ (y : Answer (List Ticks)). andThen y (λ (ss : List Ticks). fitted jobsMost slicesMost (record { shares = ss; slices = tableOf (board .window) ss }))) same in
-    let slices : take (t .sliced) rows ≡ slicesIn x = rw (rows-are, ← slices-take (t .sliced) (t .slices) there) (f .slices) in
+    let slices : take (t .sliced) rows ≡ slicesGiven x = rw (rows-are, ← slices-take (t .sliced) (t .slices) there) (f .slices) in
     let all : movesBelow (take (t .sliced) rows) (t .shared) ≡ movesIn x = rw (slices, f .shared) (sym (moves-in x)) in
-    let count : t .shared ≡ length (movesIn x) = f .shared ∙ sym (ap length (moves-in x) ∙ below-length (slicesIn x) (length (sharesIn x))) in
+    let count : t .shared ≡ length (movesIn x) = f .shared ∙ sym (ap length (moves-in x) ∙ below-length (slicesGiven x) (length (sharesGiven x))) in
     record {
       says = f .says ∙ ap countsIn plan;
       moves = e ∙ rw (all, count) (ap (λ (y : Answer Plan). movesIn y ++ replicate (jobsMost - length (movesIn y)) noMoves) plan);

@@ -25,13 +25,13 @@ use Rattle.model.specs.declared.Share.{Share}
 use Rattle.model.specs.declared.Slice.{Slice}
 use Rattle.model.proofs.ShareRow.{rows-back}
 use Rattle.model.proofs.Splits.{all-done-length}
-use Rattle.planner.specs.Plan.{Plan, Counts, planOf, sharesIn, slicesIn, countsIn, saysPlanned}
+use Rattle.planner.specs.Plan.{Plan, Counts, planOf, sharesGiven, slicesGiven, countsIn, saysPlanned}
 use Rattle.planner.specs.Promise.{Promised}
 use Rattle.planner.specs.declared.Planned.the-variants.{Plan as Counted, Refused}
 
 -- ---- the counts
 counts-are : (jobs slices : ℕ) (x : Answer Plan) → saysPlanned (Counted jobs slices) ≡ countsIn x
-    → (jobs ≡ length (sharesIn x)) × (slices ≡ length (slicesIn x))
+    → (jobs ≡ length (sharesGiven x)) × (slices ≡ length (slicesGiven x))
 counts-are jobs slices (given p) says =
     let same : _≡_ {A = Counts} (record { jobs = jobs; slices = slices }) (record { jobs = length (p .shares); slices = length (p .slices) }) = cc in
     (ap (λ (c : Counts). c .jobs) same, ap (λ (c : Counts). c .slices) same)
@@ -45,7 +45,7 @@ pub record There (board : Board) (js : List Job) (ss ss′ : List Share) (ls ls�
   pub shares-past : drop jobs ss′ ≡ drop jobs ss
   pub slices-past : drop slices ls′ ≡ drop slices ls
 
-plan-of : (ss : List Ticks) (ls : List Slice) (counts : Counts) (x : Answer Plan) → given counts ≡ countsIn x → ss ≡ sharesIn x → ls ≡ slicesIn x
+plan-of : (ss : List Ticks) (ls : List Slice) (counts : Counts) (x : Answer Plan) → given counts ≡ countsIn x → ss ≡ sharesGiven x → ls ≡ slicesGiven x
     → x ≡ given (record { shares = ss; slices = ls })
 plan-of ss ls counts (given p) says shares slices = rw (shares, slices) refl
 plan-of ss ls counts (refused number place) says shares slices = let z : _≡_ {A = ℕ} 0 1 = cc in absurd (omega arith)
@@ -55,12 +55,12 @@ pub counts-there : {board : Board} {js : List Job} {ss ss′ : List Share} {ls l
 counts-there {board} {js} {ss} {ss′} {ls} {ls′} {jobs} {slices} p =
     let x = planOf board (length js) js (length ss) (length ls) in
     let counts = counts-are jobs slices x (p .answer) in
-    let shares = front-rows (map rowOf (sharesIn x)) ss ss′ jobs (counts .0 ∙ sym (length-map (sharesIn x) rowOf)) (p .shares) in
-    let told : map ticksOfRow (take jobs ss′) ≡ sharesIn x = ap (map ticksOfRow) (shares .0) ∙ rows-back (sharesIn x) in
-    let rows = front-rows (slicesIn x) ls ls′ slices (counts .1) (p .slices) in
+    let shares = front-rows (map rowOf (sharesGiven x)) ss ss′ jobs (counts .0 ∙ sym (length-map (sharesGiven x) rowOf)) (p .shares) in
+    let told : map ticksOfRow (take jobs ss′) ≡ sharesGiven x = ap (map ticksOfRow) (shares .0) ∙ rows-back (sharesGiven x) in
+    let rows = front-rows (slicesGiven x) ls ls′ slices (counts .1) (p .slices) in
     record {
       all = counts .0 ∙ ap length (sym told) ∙ all-done-length (board .window) 1 js (map ticksOfRow (take jobs ss′)) (p .demand2 .whole .done);
-      share-rows = omega (arith, counts .0, ap length (shares .0), length-map (sharesIn x) rowOf);
+      share-rows = omega (arith, counts .0, ap length (shares .0), length-map (sharesGiven x) rowOf);
       slice-rows = omega (arith, counts .1, ap length (rows .0));
       by-rules = plan-of (map ticksOfRow (take jobs ss′)) (take slices ls′) _ x (p .answer) told (rows .0);
       shares-past = shares .1;

@@ -36,7 +36,7 @@ use Rattle.model.specs.declared.Slice.{Slice}
 use Rattle.legal.specs.Lawful.{LegalJob, Lawful}
 use Rattle.split.specs.Home.{stretchedAt}
 use Rattle.split.specs.Promise.{stretchedOn, SmallerSplit}
-use Rattle.planner.specs.Plan.{planOf, slicesIn}
+use Rattle.planner.specs.Plan.{planOf, slicesGiven}
 use Rattle.planner.specs.Promise.{Promised}
 use Rattle.planner.specs.declared.Planned.{Planned}
 use Rattle.planner.specs.declared.Planned.the-variants.{Plan as Counted, Refused}
@@ -224,7 +224,7 @@ copied-slices f copies meets =
 
 -- ---- A count of slices that is not the length of the rules' table.
 pub invented-count : (f : Planner) (board : Board) (js : List Job) (ss : List Share) (ls : List Slice) (jobs rows : ℕ)
-    → f board js ss ls .answer ≡ Counted jobs rows → (rows ≡ length (slicesIn (planOf board (length js) js (length ss) (length ls))) → ⊥) → Meets f → ⊥
+    → f board js ss ls .answer ≡ Counted jobs rows → (rows ≡ length (slicesGiven (planOf board (length js) js (length ss) (length ls))) → ⊥) → Meets f → ⊥
 invented-count f board js ss ls jobs rows is wrong meets =
     let p : Promised board js ss ls (Counted jobs rows) (f board js ss ls .shares) (f board js ss ls .slices) = rw is at (meets board js ss ls) in
-    wrong (sym (ap (λ x. length (slicesIn x)) (rows-by-rules p) ∙ length-take-le rows (f board js ss ls .slices) (rows-there p .2)))
+    wrong (sym (ap (λ x. length (slicesGiven x)) (rows-by-rules p) ∙ length-take-le rows (f board js ss ls .slices) (rows-there p .2)))

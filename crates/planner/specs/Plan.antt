@@ -2,7 +2,7 @@
 --   Plan         the shares of the jobs, and the table
 --   fitted       refusal 7 where a lent table has too few rows
 --   planOf       the plan of any set, for tables of m shares and k slices
---   sharesIn, slicesIn   the rows to be written: none where the set is refused
+--   sharesGiven, slicesGiven   the rows to be written: none where the set is refused
 --   countsIn     what the planning call answers: the counts of both
 --   saysPlanned  what the code's answer says, in document 01's terms
 --   short        columns of which one is too short for the plan of some set
@@ -39,13 +39,13 @@ abbrev pub planOf : Board → ℕ → List Job → (m k : ℕ) → Answer Plan
 planOf board n js m k =
     andThen (sharesOf board n js) (λ (ss : List Ticks). fitted m k (record { shares = ss; slices = tableOf (board .window) ss }))
 
-abbrev pub sharesIn : Answer Plan → List Ticks
-sharesIn (given p) = p .shares
-sharesIn (refused number place) = []
+abbrev pub sharesGiven : Answer Plan → List Ticks
+sharesGiven (given p) = p .shares
+sharesGiven (refused number place) = []
 
-abbrev pub slicesIn : Answer Plan → List Slice
-slicesIn (given p) = p .slices
-slicesIn (refused number place) = []
+abbrev pub slicesGiven : Answer Plan → List Slice
+slicesGiven (given p) = p .slices
+slicesGiven (refused number place) = []
 
 pub record Counts : Type 0 where
   pub jobs : ℕ
