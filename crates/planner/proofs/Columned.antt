@@ -39,8 +39,9 @@ use Rattle.slices.specs.Table.{tableOf}
 use Rattle.slices.proofs.Timetabled.{table-timetable}
 use Rattle.split.specs.Shares.{sharesOf}
 use Rattle.planner.specs.Packing.{Tabled}
-use Rattle.planner.specs.Plan.{Plan, Counts, planOf, sharesGiven, slicesGiven, countsIn, saysPlanned, short, columnsOf, noRows, fitOf}
-use Rattle.planner.specs.Promise.{Columned, Filled}
+use Rattle.planner.specs.Plan.{Plan, Counts, planOf, sharesGiven, slicesGiven, countsIn, saysPlanned, tooShort, columnsOf}
+use Rattle.planner.specs.ByValue.{noRows, fitOf, Filled}
+use Rattle.planner.specs.Promise.{Columned}
 use Rattle.planner.specs.declared.Fitted.{Fitted}
 use Rattle.planner.specs.declared.Planned.{Planned}
 use Rattle.planner.specs.declared.Planned.the-variants.{Plan as Counted, Refused}
@@ -100,7 +101,7 @@ never : {A : Type 0} → _≡_ {A = ℕ} 0 1 → A
 never z = absurd (omega arith)
 
 -- ---- the promise of columns
-pub enough : (m1 m2 k : ℕ) → short m1 m2 k ≡ false → (jobsMost ≤ m1) × (jobsMost ≤ m2) × (slicesMost ≤ k)
+pub enough : (m1 m2 k : ℕ) → tooShort m1 m2 k ≡ false → (jobsMost ≤ m1) × (jobsMost ≤ m2) × (slicesMost ≤ k)
 enough m1 m2 k e = go (ltb m1 jobsMost) (ltb m2 jobsMost) (ltb k slicesMost) refl refl refl e
   where
     go : (a b c : Bool) → ltb m1 jobsMost ≡ a → ltb m2 jobsMost ≡ b → ltb k slicesMost ≡ c → (a || b || c) ≡ false
@@ -130,15 +131,15 @@ module _ (board : Board) (n : ℕ) (js : List Job) (s1 s2 rows : List ℕ) where
   pub columned-refused : (r : Refusal) → saysRefusal r ≡ sharesOf board n js → Columned board n js s1 s2 rows (Refused r) s1 s2 rows
   columned-refused r e =
       columned-none r
-      (ap (λ (x : Answer (List Ticks)). andThen x (λ (ss : List Ticks). cond (short (length s1) (length s2) (length rows)) (refused 7 0) (given (made ss)))) e)
+      (ap (λ (x : Answer (List Ticks)). andThen x (λ (ss : List Ticks). cond (tooShort (length s1) (length s2) (length rows)) (refused 7 0) (given (made ss)))) e)
 
-  pub columned-short : {ss : List Ticks} → sharesOf board n js ≡ given ss → short (length s1) (length s2) (length rows) ≡ true
+  pub columned-short : {ss : List Ticks} → sharesOf board n js ≡ given ss → tooShort (length s1) (length s2) (length rows) ≡ true
       → Columned board n js s1 s2 rows (Refused TooShort) s1 s2 rows
   columned-short is e = columned-none TooShort (rw (is, e) refl)
 
   -- The shares of two columns a and b, put into those that are lent.
   pub columned-plan : (count r : ℕ) (a b s1′ s2′ rows′ : List ℕ) → count ≤ length a → count ≤ length b → sharesOf board n js ≡ given (sharesIn count a b)
-      → short (length s1) (length s2) (length rows) ≡ false → s1′ ≡ take count a ++ drop count s1 → s2′ ≡ take count b ++ drop count s2
+      → tooShort (length s1) (length s2) (length rows) ≡ false → s1′ ≡ take count a ++ drop count s1 → s2′ ≡ take count b ++ drop count s2
       → Tabled (board .window) (sharesIn count s1′ s2′) rows rows′ r → Columned board n js s1 s2 rows (Counted count r) s1′ s2′ rows′
   columned-plan count r a b s1′ s2′ rows′ fits1 fits2 is enough put1 put2 tabled′ =
       let ss : List Ticks = sharesIn count a b in

@@ -35,7 +35,8 @@ use Rattle.split.proofs.Demands.{demands, exactly}
 use Rattle.split.proofs.Seen.{shares-seen}
 use Rattle.planner.specs.Plan.{Plan, Counts, fitted, planOf, sharesGiven as sharesIn, slicesGiven as slicesIn, countsIn, saysPlanned}
 use Rattle.rows.specs.Lists.{front}
-use Rattle.planner.specs.Promise.{Filled, Unchanged, Served, Promised}
+use Rattle.planner.specs.Promise.{Unchanged, Served, Promised}
+use Rattle.planner.specs.ByValue.{Filled}
 use Rattle.planner.specs.declared.Planned.{Planned}
 use Rattle.planner.specs.declared.Planned.the-variants.{Plan as Counted, Refused}
 use Rattle.planner.specs.declared.Tables.{Tables}

@@ -11,3 +11,4 @@ pub mod Causes
 pub mod PromiseSaid
 pub mod Demands
 pub mod WrongPlanners
+pub mod Examples

@@ -36,9 +36,9 @@ use Rattle.slices.proofs.MovesAll.{moves-all}
 use Rattle.slices.proofs.OncePerCore.{table-once}
 use Rattle.split.specs.Shares.{sharesOf}
 use Rattle.split.proofs.Demands.{shares-numbered}
-use Rattle.planner.specs.PlanMoves.{movesBelow, movesIn, outers, inners, noMoves, roomyPlan, MovesPromised}
+use Rattle.planner.specs.PlanMoves.{movesBelow, movesIn, noMoves, roomyPlan, MovesPromised}
+use Rattle.planner.specs.ByValue.{Filled}
 use Rattle.planner.specs.Plan.{Plan, fitted, planOf, sharesGiven, slicesGiven, countsIn}
-use Rattle.planner.specs.Promise.{Filled}
 use Rattle.planner.specs.declared.Tables.{Tables}
 use Rattle.planner.proofs.Columned.{slices-take}
 use Rattle.planner.proofs.Plans.{shares-lawful, shares-accepted, accepted-fits, accepted-few, plan-shares, plan-kept}
@@ -88,6 +88,12 @@ moving-filled board n ks js t rows moves same f there rows-are e =
     }
 
 -- ---- the moves of a plan
+abbrev pub outers : List Moves → ℕ
+outers ms = sumOf (λ (m : Moves). m .outer) ms
+
+abbrev pub inners : List Moves → ℕ
+inners ms = sumOf (λ (m : Moves). m .inner) ms
+
 -- A job whose work is done has a share, since its cost is at least 1.
 both-some : (a b c d : ℕ) → 0 < c → 0 < d → 1 * c * d ≤ a * d + b * c → 0 < a + b
 both-some a b c d hc hd work = go (ltb 0 (a + b)) refl

@@ -1,12 +1,11 @@
--- What the planning call promises.
---   Columned     the plan in columns: the answer, and every number of each column
---   Filled       the plan by value: the answer, and the rows that are to be written
---   Unchanged    demand 1: a refusal changes no row of the lent tables
---   GoodPlan         what demand 2 says of a plan: its shares are a split in whole ticks, at most m1 + m2 of them move and at most one mover is
---                not even, and its rows are a timetable of them, at most n + 2·(m1 + m2) − 2
---   Served       demand 2: an accepted plan is one of which this is kept
---   ForRoom      demand 3: a refusal for room, and when exactly it is given
---   Promised     the lent planning call: the answer, every row of both tables, and the three demands in their own words
+-- What the planning call promises: docs/SPEC.md, "What is promised of every set".
+--   Columned    the plan in columns: the answer, and every number of each column
+--   Unchanged   demand 1: a refusal changes no row of the lent tables
+--   GoodPlan    what demand 2 says of a plan: its shares are a split in whole ticks, at most m1 + m2 of them move and at most one mover is
+--               not even, and its rows are a timetable of them, at most n + 2·(m1 + m2) − 2
+--   Served      demand 2: an accepted plan is a good one
+--   ForRoom     demand 3: a refusal for room, and when exactly it is given
+--   Promised    the lent planning call: the answer, every row of both tables, and the three demands in their own words
 -- Assumes nothing.
 use mathlib.Core.List.{List, map}
 use mathlib.Core.Logic.{_↔_}
@@ -41,18 +40,6 @@ pub record Columned (board : Board) (n : ℕ) (js : List Job) (s1 s2 rows : List
   pub first : s1′ ≡ front (map (ticksOn First) (sharesGiven (columnsOf board n js (length s1) (length s2) (length rows)))) s1
   pub second : s2′ ≡ front (map (ticksOn Second) (sharesGiven (columnsOf board n js (length s1) (length s2) (length rows)))) s2
   pub slices : rows′ ≡ front (map packOf (slicesGiven (columnsOf board n js (length s1) (length s2) (length rows)))) rows
-
--- For tables of m shares and k slices: the rows that are to be written.
-pub record Filled (board : Board) (n : ℕ) (js : List Job) (m k : ℕ) (t : Tables) : Type 0 where
-  pub says : saysPlanned (t .planned) ≡ countsIn (planOf board n js m k)
-  pub shared : t .shared ≡ length (sharesGiven (planOf board n js m k))
-  pub sliced : t .sliced ≡ length (slicesGiven (planOf board n js m k))
-  pub shares : sharesIn (t .shared) (t .first) (t .second) ≡ sharesGiven (planOf board n js m k)
-  pub slices : slicesIn (t .sliced) (t .slices) ≡ slicesGiven (planOf board n js m k)
-  pub few-shares : t .shared ≤ jobsMost
-  pub fit-shares : t .shared ≤ m
-  pub few-slices : t .sliced ≤ slicesMost
-  pub fit-slices : t .sliced ≤ k
 
 abbrev pub Unchanged : Planned → (ss ss′ : List Share) → (ls ls′ : List Slice) → Type 0
 Unchanged (Plan jobs slices) ss ss′ ls ls′ = Unit {0}
