@@ -17,10 +17,10 @@ use mathlib.Core.Logic.{_⊎_}
 use mathlib.Core.Path.{_≡_}
 use Prim.Native.Nat.{ℕ, _+_, _*_, _≤_, _<_}
 use lib.ListN.{length, getD}
+use Rattle.rows.specs.Lists.{All}
 use Rattle.model.specs.Board.{roomOf}
 use Rattle.model.specs.Empty.{noJob}
 use Rattle.model.specs.Limits.{windowMost, coresMost, jobsMost, costMost}
-use Rattle.rows.specs.Lists.{All}
 use Rattle.model.specs.Refusal.{Answer, given, refused}
 use Rattle.model.specs.Split.{Ticks}
 use Rattle.model.specs.declared.Kind.the-variants.{First, Second}
@@ -28,8 +28,8 @@ use Rattle.model.specs.declared.Board.{Board}
 use Rattle.model.specs.declared.Job.{Job}
 use Rattle.model.specs.declared.Job.the-variants.{Both, OnlyFirst, OnlySecond}
 use Rattle.legal.specs.Lawful.{Lawful}
-use Rattle.slices.specs.Table.{tableOf}
 use Rattle.split.specs.Shares.{splitOf}
+use Rattle.slices.specs.Table.{tableOf}
 
 abbrev pub Outside : ℕ → ℕ → Type 0
 Outside most x = (x < 1) ⊎ (most < x)

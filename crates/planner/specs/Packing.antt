@@ -22,9 +22,9 @@ use mathlib.Core.List.{List, [], _∷_, _++_, map}
 use mathlib.Core.Path.{_≡_}
 use Prim.Native.Nat.{ℕ, _+_, _*_, _≤_, _<_}
 use lib.ListN.{length, drop, set}
-use Rattle.model.specs.Board.{on}
 use Rattle.rows.specs.Upto.{upto, at}
 use Rattle.rows.specs.Lists.{All}
+use Rattle.model.specs.Board.{on}
 use Rattle.model.specs.Limits.{windowMost, coresMost, jobsMost, slicesMost}
 use Rattle.model.specs.Packed.{packOf}
 use Rattle.model.specs.Split.{Ticks, share, ticksOf}

@@ -20,12 +20,9 @@ use Rattle.model.specs.Refusal.{Answer, given, refused, saysRefusal, andThen}
 use Rattle.model.specs.Split.{Ticks}
 use Rattle.model.specs.declared.Board.{Board}
 use Rattle.model.specs.declared.Job.{Job}
-use Rattle.model.specs.declared.Refusal.{Refusal}
-use Rattle.model.specs.declared.Refusal.the-variants.{TooShort}
 use Rattle.model.specs.declared.Slice.{Slice}
-use Rattle.slices.specs.Table.{tableOf}
 use Rattle.split.specs.Shares.{sharesOf}
-use Rattle.planner.specs.declared.Fitted.{Fitted}
+use Rattle.slices.specs.Table.{tableOf}
 use Rattle.planner.specs.declared.Planned.{Planned}
 use Rattle.planner.specs.declared.Planned.the-variants.{Plan as Counted, Refused}
 

@@ -10,7 +10,6 @@ use mathlib.Core.Path.{_≡_}
 use Prim.Native.Nat.{ℕ, zero, suc, _-_}
 use lib.ListN.{length, replicate}
 use Rattle.model.specs.Limits.{jobsMost, slicesMost}
-use Rattle.rows.specs.Lists.{sumOf}
 use Rattle.model.specs.Refusal.{Answer, given, refused}
 use Rattle.model.specs.declared.Board.{Board}
 use Rattle.model.specs.declared.Job.{Job}

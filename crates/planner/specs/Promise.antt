@@ -12,12 +12,11 @@ use mathlib.Core.Logic.{_↔_}
 use mathlib.Core.Path.{_≡_}
 use Prim.Native.Nat.{ℕ, _+_, _*_, _≤_}
 use lib.ListN.{length, take}
+use Rattle.rows.specs.Lists.{front}
 use Rattle.model.specs.Board.{roomOf}
-use Rattle.model.specs.Limits.{jobsMost, slicesMost}
 use Rattle.model.specs.Movers.{movers, unevens}
 use Rattle.model.specs.Refusal.{given, refused}
-use Rattle.model.specs.Columns.{sharesIn}
-use Rattle.model.specs.Packed.{packOf, slicesIn}
+use Rattle.model.specs.Packed.{packOf}
 use Rattle.model.specs.ShareRow.{rowOf, ticksOfRow}
 use Rattle.model.specs.Split.{Ticks, ticksOn, WholeSplit}
 use Rattle.model.specs.Timetable.{Timetable}
@@ -29,10 +28,8 @@ use Rattle.model.specs.declared.Slice.{Slice}
 use Rattle.legal.specs.Legal.{legalOf}
 use Rattle.split.specs.Promise.{SplitOn, SmallerSplit, stretchedOn}
 use Rattle.planner.specs.Plan.{planOf, columnsOf, sharesGiven, slicesGiven, countsIn, saysPlanned}
-use Rattle.rows.specs.Lists.{front}
 use Rattle.planner.specs.declared.Planned.{Planned}
 use Rattle.planner.specs.declared.Planned.the-variants.{Plan, Refused}
-use Rattle.planner.specs.declared.Tables.{Tables}
 
 -- What the columns hold before the call, and after it with a prime: new numbers at the front of each, and the others as they were.
 pub record Columned (board : Board) (n : ℕ) (js : List Job) (s1 s2 rows : List ℕ) (r : Planned) (s1′ s2′ rows′ : List ℕ) : Type 0 where
