@@ -32,8 +32,8 @@ use Rattle.rows.specs.Lists.{front}
 use Rattle.planner.specs.Promise.{Columned}
 use Rattle.planner.specs.declared.Planned.{Planned}
 use Rattle.planner.specs.declared.Planned.the-variants.{Plan as Counted, Refused}
-use Rattle.planner.proofs.Columned.{shares-front, slices-front}
-use Rattle.planner.proofs.Plans.{table-asks}
+use Rattle.planner.proofs.ColumnFronts.{shares-front, slices-front}
+use Rattle.planner.proofs.PlanLaws.{table-asks}
 use Rattle.clampfern.specs.Answer.{planned, linesFor, answerText}
 use Rattle.clampfern.proofs.Bounds.{small, narrow}
 

@@ -16,7 +16,7 @@ use Rattle.text.specs.Output.{answerMost}
 use Rattle.text.proofs.PlanText.{plan-length}
 use Rattle.planner.proofs.Examples.{board, jobs, most-slices}
 use Rattle.planner.specs.Plan.{Plan, planOf, slicesGiven as slicesIn}
-use Rattle.planner.proofs.Plans.{plan-kept}
+use Rattle.planner.proofs.PlanLaws.{plan-kept}
 use Rattle.clampfern.specs.Answer.{planned, linesFor, answerText}
 use Rattle.clampfern.proofs.Bounds.{small}
 

@@ -38,7 +38,7 @@ use Rattle.split.specs.Shares.{sharesSeen, settled, byOver}
 use Rattle.split.specs.Rows.{Row}
 use Rattle.planner.specs.Listed.{Outside, BadCost, TooLong, LowestOf, Sound, stepsOn, ShortTables, Listed, window, cores, many, cost, long, room, space}
 use Rattle.planner.specs.Plan.{fitted, planOf}
-use Rattle.planner.proofs.Plans.{shares-accepted, accepted-few}
+use Rattle.planner.proofs.PlanLaws.{shares-accepted, accepted-few}
 
 -- ---- tests
 data Tells (P : Type 0) : Bool → Type 0 where

@@ -1,11 +1,13 @@
--- Two sets at the limits of what a plan can have, so that neither bound can be lower.
---   most-slices   as many jobs as there can be, on as many cores: 94 slices
+-- Two sets at the limits of what a plan can have, worked out by the checker, so that neither bound can be lower.
+--   board, jobs   as many jobs as there can be, on as many cores
+--   most-slices   their plan has 94 slices
 --   most-movers   two jobs on one core of each kind, and both move
 -- Assumes nothing.
 use mathlib.Core.List.{List, [], _∷_, _++_}
 use mathlib.Core.Path.{_≡_, refl}
 use Prim.Native.Nat.{ℕ}
 use lib.ListN.{length, replicate}
+use Rattle.rows.specs.Lists.{lowest}
 use Rattle.model.specs.Board.{roomOf}
 use Rattle.model.specs.Limits.{jobsMost, slicesMost}
 use Rattle.model.specs.Movers.{movers}
@@ -13,7 +15,6 @@ use Rattle.model.specs.declared.Board.{Board}
 use Rattle.model.specs.declared.Job.{Job}
 use Rattle.model.specs.declared.Job.the-variants.{Both, OnlyFirst, OnlySecond}
 use Rattle.legal.specs.Legal.{legalOf}
-use Rattle.rows.specs.Lists.{lowest}
 use Rattle.split.specs.Home.{atHome, keepOf, giveOf}
 use Rattle.split.specs.Shares.{settled, byOver}
 use Rattle.split.specs.Steps.{better, nextFrom, movedOf, stepOf, stepsOf}

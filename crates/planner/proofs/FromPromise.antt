@@ -1,20 +1,20 @@
--- What a promise of the planning call says to one who reads it: the definition's cases taken apart once, for the pages that state the
+-- What follows from the promise of the planning call alone: the cases of the definition are taken apart here once, for the pages that state the
 -- demands. Assumes nothing.
---   counts-are     the counts of an accepted plan are those of the definition's
---   counts-there   an accepted plan has a share for each job, the rows that it counts are there and are the definition's, and those past
---                  them are as they were
---   rows-pair      what every two rows of a plan's table have between them, by their numbers
---   call-refused   a refusal is the definition's
+--   PlanThere          of an accepted plan: it has a share for each job, the rows that it counts are there and are the definition's, and those
+--                      past them are as they were
+--   plan-there         an accepted plan is there
+--   rows-pair          what every two rows of a plan's table have between them, by their numbers
+--   refusal-by-rules   a refusal is the one that the definition of the plan gives
 use mathlib.Core.Path.{_≡_, refl, sym, ap, _∙_}
 use mathlib.Core.List.{List, map}
 use Prim.Native.Nat.{ℕ, _<_}
 use native.Mathlib.Omega.{arith}
 use lib.ListN.{length, take, drop, getD, length-map}
-use lib.Seq.{take-append-seam, drop-append-seam, getD-take}
+use lib.Seq.{getD-take}
+use Rattle.rows.specs.Lists.{Pairs}
 use Rattle.rows.proofs.Walk.{front-rows}
-use Rattle.model.specs.Empty.{noSlice}
-use Rattle.rows.specs.Lists.{Pairs, front}
 use Rattle.rows.proofs.Lists.{pairs-at}
+use Rattle.model.specs.Empty.{noSlice}
 use Rattle.model.specs.Refusal.{Answer, given, refused, saysRefusal}
 use Rattle.model.specs.ShareRow.{rowOf, ticksOfRow}
 use Rattle.model.specs.Split.{Ticks}
@@ -28,16 +28,9 @@ use Rattle.model.proofs.Splits.{all-done-length}
 use Rattle.planner.specs.Plan.{Plan, Counts, planOf, sharesGiven, slicesGiven, countsIn, saysPlanned}
 use Rattle.planner.specs.Promise.{Promised}
 use Rattle.planner.specs.declared.Planned.the-variants.{Plan as Counted, Refused}
+use Rattle.planner.proofs.PlanLaws.{never, counts-are}
 
--- ---- the counts
-counts-are : (jobs slices : ℕ) (x : Answer Plan) → saysPlanned (Counted jobs slices) ≡ countsIn x
-    → (jobs ≡ length (sharesGiven x)) × (slices ≡ length (slicesGiven x))
-counts-are jobs slices (given p) says =
-    let same : _≡_ {A = Counts} (record { jobs = jobs; slices = slices }) (record { jobs = length (p .shares); slices = length (p .slices) }) = cc in
-    (ap (λ (c : Counts). c .jobs) same, ap (λ (c : Counts). c .slices) same)
-counts-are jobs slices (refused number place) says = let z : _≡_ {A = ℕ} 0 1 = cc in absurd (omega arith)
-
-pub record There (board : Board) (js : List Job) (ss ss′ : List Share) (ls ls′ : List Slice) (jobs slices : ℕ) : Type 0 where
+pub record PlanThere (board : Board) (js : List Job) (ss ss′ : List Share) (ls ls′ : List Slice) (jobs slices : ℕ) : Type 0 where
   pub all : jobs ≡ length js
   pub share-rows : length (take jobs ss′) ≡ jobs
   pub slice-rows : length (take slices ls′) ≡ slices
@@ -48,11 +41,11 @@ pub record There (board : Board) (js : List Job) (ss ss′ : List Share) (ls ls�
 plan-of : (ss : List Ticks) (ls : List Slice) (counts : Counts) (x : Answer Plan) → given counts ≡ countsIn x → ss ≡ sharesGiven x → ls ≡ slicesGiven x
     → x ≡ given (record { shares = ss; slices = ls })
 plan-of ss ls counts (given p) says shares slices = rw (shares, slices) refl
-plan-of ss ls counts (refused number place) says shares slices = let z : _≡_ {A = ℕ} 0 1 = cc in absurd (omega arith)
+plan-of ss ls counts (refused number place) says shares slices = never (cc)
 
-pub counts-there : {board : Board} {js : List Job} {ss ss′ : List Share} {ls ls′ : List Slice} {jobs slices : ℕ}
-    → Promised board js ss ls (Counted jobs slices) ss′ ls′ → There board js ss ss′ ls ls′ jobs slices
-counts-there {board} {js} {ss} {ss′} {ls} {ls′} {jobs} {slices} p =
+pub plan-there : {board : Board} {js : List Job} {ss ss′ : List Share} {ls ls′ : List Slice} {jobs slices : ℕ}
+    → Promised board js ss ls (Counted jobs slices) ss′ ls′ → PlanThere board js ss ss′ ls ls′ jobs slices
+plan-there {board} {js} {ss} {ss′} {ls} {ls′} {jobs} {slices} p =
     let x = planOf board (length js) js (length ss) (length ls) in
     let counts = counts-are jobs slices x (p .answer) in
     let shares = front-rows (map rowOf (sharesGiven x)) ss ss′ jobs (counts .0 ∙ sym (length-map (sharesGiven x) rowOf)) (p .shares) in
@@ -72,14 +65,12 @@ pub rows-pair : {board : Board} {js : List Job} {ss ss′ : List Share} {ls ls�
     → (i k : ℕ) → i < k → k < slices → R (getD ls′ i noSlice) (getD ls′ k noSlice)
 rows-pair {ls′ = ls′} {slices = slices} p R h i k l m =
     rw (getD-take slices ls′ i noSlice (omega arith), getD-take slices ls′ k noSlice m) at
-    (pairs-at R noSlice (take slices ls′) i k l (omega (arith, counts-there p .slice-rows)) h)
+    (pairs-at R noSlice (take slices ls′) i k l (omega (arith, plan-there p .slice-rows)) h)
 
--- ---- the refusals
--- A refusal is the one that the definition of the plan gives.
-pub call-refused : {board : Board} {js : List Job} {ss ss′ : List Share} {ls ls′ : List Slice} {r : Refusal}
+pub refusal-by-rules : {board : Board} {js : List Job} {ss ss′ : List Share} {ls ls′ : List Slice} {r : Refusal}
     → Promised board js ss ls (Refused r) ss′ ls′ → planOf board (length js) js (length ss) (length ls) ≡ saysRefusal r
-call-refused {board} {js} {ss} {ss′} {ls} {ls′} {r} p = go (planOf board (length js) js (length ss) (length ls)) (p .answer)
+refusal-by-rules {board} {js} {ss} {ss′} {ls} {ls′} {r} p = go (planOf board (length js) js (length ss) (length ls)) (p .answer)
   where
     go : (x : Answer Plan) → saysPlanned (Refused r) ≡ countsIn x → x ≡ saysRefusal r
-    go (given q) says = let z : _≡_ {A = ℕ} 0 1 = cc in absurd (omega arith)
+    go (given q) says = never (cc)
     go (refused number place) says = cc

@@ -40,7 +40,7 @@ use Rattle.planner.specs.ByValue.{Filled}
 use Rattle.planner.specs.declared.Planned.{Planned}
 use Rattle.planner.specs.declared.Planned.the-variants.{Plan as Counted, Refused}
 use Rattle.planner.specs.declared.Tables.{Tables}
-use Rattle.planner.proofs.Plans.{plan-kept}
+use Rattle.planner.proofs.PlanLaws.{plan-kept}
 
 abbrev pub read : Kind → List Job → ℕ → List ℕ
 read kind js few = map (costOn kind) (take few js) ++ replicate (jobsMost - few) 0

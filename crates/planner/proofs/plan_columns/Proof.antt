@@ -6,15 +6,16 @@ use Prim.Native.Nat.{ℕ, _≤_}
 use native.Mathlib.Omega.{arith}
 use borrow.Author.Needs.{needs}
 use lib.ListN.{length}
+use Rattle.rows.proofs.Upto.{upto-length}
 use Rattle.model.specs.Columns.{sharesIn, jobsIn}
 use Rattle.model.specs.Limits.{jobsMost, slicesMost}
 use Rattle.model.specs.Refusal.{given}
-use Rattle.rows.proofs.Upto.{upto-length}
 use Rattle.split.specs.Shares.{sharesOf, saysOutcome, rowsOf}
 use Rattle.split.specs.declared.Outcome.{Outcome}
 use Rattle.planner.specs.Packing.{TableAsks}
-use Rattle.planner.proofs.Columned.{enough, put-same, columned-refused, columned-short, columned-plan}
-use Rattle.planner.proofs.Plans.{table-asks}
+use Rattle.planner.proofs.ColumnFronts.{put-same}
+use Rattle.planner.proofs.PlanColumns.{columns-enough, columned-refused, columned-short, columned-plan}
+use Rattle.planner.proofs.PlanLaws.{table-asks}
 use Rattle.planner.proofs.plan_columns.Statement.{statement}
 use Rattle.planner.proofs.plan_columns.Tie as tie
 
@@ -70,7 +71,7 @@ returns c =
 -- Where the columns are long enough too.
 room : (c : tie.Else1) → let a = start (c .before .before) .args in
     (jobsMost ≤ length (a .shares1 .now)) × (jobsMost ≤ length (a .shares2 .now)) × (slicesMost ≤ length (a .slices .now))
-room c = enough _ _ _ (sym (c .before .are-too-short .ensures) ∙ c .if1 .left)
+room c = columns-enough _ _ _ (sym (c .before .are-too-short .ensures) ∙ c .if1 .left)
 
 put-ticks-requires : tie.Need-put-ticks-requires
 put-ticks-requires c κs =

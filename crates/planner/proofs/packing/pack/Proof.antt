@@ -6,7 +6,7 @@ use native.Mathlib.Omega.{arith}
 use borrow.Author.Needs.{needs}
 use lib.ListN.{length}
 use Rattle.planner.specs.Packing.{fillingOf}
-use Rattle.planner.proofs.Filling.{left, Passing, job-few, share-within, pass-asks, pass-on, pass-ends}
+use Rattle.planner.proofs.packing.Filling.{left, Passing, job-few, share-within, pass-asks, pass-on, pass-ends}
 use Rattle.planner.proofs.packing.pack.Statement.{statement}
 use Rattle.planner.proofs.packing.pack.Tie as tie
 

@@ -7,7 +7,7 @@ use borrow.Author.Needs.{needs}
 use lib.ListN.{length-set}
 use Rattle.model.specs.Limits.{coresMost, slicesMost}
 use Rattle.planner.specs.Packing.{Asks}
-use Rattle.planner.proofs.Filling.{run, run-row, run-core, run-rows, run-one, run-two}
+use Rattle.planner.proofs.packing.Filling.{run, run-row, run-core, run-rows, run-one, run-two}
 use Rattle.planner.proofs.packing.put_run.Statement.{statement}
 use Rattle.planner.proofs.packing.put_run.Tie as tie
 
