@@ -1,7 +1,7 @@
-// The planning call: shares, then slices, into tables that the caller lends. What it promises is specs/Promise.antt, and the plan itself specs/Plan.antt.
+// The planning call: shares, then slices, into tables that the caller lends. What it promises is in specs/Promise.antt, the plan in specs/Plan.antt.
 //
-// One core serves every caller: `plan_columns`, over columns of numbers (crate model, specs/Columns.antt and specs/Packed.antt), which callers with a text
-// call as it is. `plan` is the call over lent records: the few functions over them only read or write rows, one by one.
+// One core serves every caller: `plan_columns`, over columns of numbers (crate model, specs/Columns.antt and specs/Packed.antt), which callers
+// with a text call as it is. `plan` is the call over lent records: the few functions over them only read or write rows, one by one.
 mod packing;
 
 ghost use mathlib.Core.Path.{_≡_};
@@ -84,8 +84,8 @@ fn put_ticks(ticks: [u16; JOBS_MOST], n: usize, column: &mut [u16])
     }
 }
 
-// The plan of the first `n` jobs of two columns of costs, into columns of its shares and its slices. More than 64 jobs can be asked for, and are refused.
-// Columns that are too short for some set are refused by 7, last of all.
+// The plan of the first `n` jobs of two columns of costs, into columns of its shares and its slices. More than 64 jobs can be asked for, and are
+// refused. Columns that are too short for some set are refused by 7, last of all.
 pub fn plan_columns(
     board: Board,
     first: &[u32; JOBS_MOST],

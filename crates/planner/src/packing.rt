@@ -1,6 +1,6 @@
 // The table of slices of shares that fit a board: docs/SPEC.md, "The slices". Its definition is `tableOf` of crate slices, specs/Table.antt.
 // The code stands here, for it is not free of `requires` yet: `table` asks for shares that fit a board and for a column that holds their slices
-// (specs/Packing.antt), which the planning call knows of the split's. With a check of both, and a refusal, `table` would be a public call of crate slices.
+// (specs/Packing.antt), which the planning call knows of the split's. With a check of both, and a refusal, it would be a public call of crate slices.
 //
 // Each kind is packed in three passes over the jobs: the even movers, the mover that is not even, and those that are on this kind only.
 // A pass knows a job's ticks on its own kind and on the other: the same code serves both kinds, with the two columns exchanged.

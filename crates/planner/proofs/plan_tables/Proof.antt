@@ -1,4 +1,5 @@
--- `planner::plan_tables` meets its contract: its own columns are long enough for every set, so that only the tables can be too short. Assumes nothing.
+-- `planner::plan_tables` meets its contract: its own columns are long enough for every set, so that only the tables can be too short.
+-- Assumes nothing.
 use mathlib.Core.Path.{refl}
 use borrow.Author.Needs.{needs}
 use Rattle.rows.proofs.Upto.{upto-length}

@@ -1,5 +1,5 @@
--- `packing::pack` meets its contract. The invariant: the table as it is, with the pieces of the jobs that are left, becomes what all pieces make of it.
--- Assumes nothing.
+-- `packing::pack` meets its contract. The invariant: the table as it is, with the pieces of the jobs that are left, becomes what all pieces make
+-- of it. Assumes nothing.
 use mathlib.Core.Path.{_≡_, refl}
 use Prim.Native.Nat.{_-_, _≤_}
 use native.Mathlib.Omega.{arith}

@@ -1,4 +1,5 @@
--- `packing::put_run` meets its contract: a run that reaches the edge of its core at most is one slice, and one that goes past it two. Assumes nothing.
+-- `packing::put_run` meets its contract: a run that reaches the edge of its core at most is one slice, and one that goes past it two.
+-- Assumes nothing.
 use mathlib.Core.Path.{_≡_, refl}
 use Prim.Native.Nat.{_+_, _*_, _≤_, _<_}
 use native.Mathlib.Nat.{add-mul}
