@@ -18,13 +18,16 @@ pub mod Examples
 pub mod PlanLaws
 -- The first numbers of a column are what was put there.
 pub mod ColumnFronts
--- The promises of `plan_columns`, `plan_tables` and `plan`, from what each knows of its callees.
+-- The promise of `plan_columns`, of each of its answers.
 mod PlanColumns
+-- The promise of `plan_tables`, from that of `plan_columns`.
 mod PlanTables
+-- The promise of `plan`, from that of `plan_tables` and of the functions over rows of records.
 pub mod Lent
 -- The promise of `moves`; and how many moves a plan has, a theorem that no promise needs.
 pub mod PlanMoves
 --
--- What the walks by hand over lent rows of records share: a count that goes up, and a local array's slot.
+-- What the walks by hand over lent rows of records share: a count that goes up, and the rows written so far.
 mod Counted
+-- And the slot of a local array, taken apart and put together.
 pub mod Slot
