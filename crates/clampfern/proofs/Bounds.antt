@@ -22,7 +22,7 @@ use Rattle.model.specs.declared.Slice.{Slice}
 use Rattle.model.proofs.Splits.{all-done-length}
 use Rattle.legal.specs.Lawful.{Lawful}
 use Rattle.planner.specs.Plan.{Plan, planOf}
-use Rattle.planner.proofs.Plans.{plan-shares, plan-kept, shares-lawful, shares-accepted, accepted-fits}
+use Rattle.planner.proofs.PlanLaws.{plan-shares, plan-kept, shares-lawful, shares-accepted, accepted-fits}
 
 pub record Small (p : Plan) : Type 0 where
   pub few-jobs : length (p .shares) ≤ jobsMost

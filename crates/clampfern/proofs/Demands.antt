@@ -38,7 +38,7 @@ use Rattle.text.specs.declared.Written.the-variants.{Bytes}
 use Rattle.planner.specs.Plan.{Plan, countsIn}
 use Rattle.planner.specs.Promise.{GoodPlan}
 use Rattle.planner.proofs.Lent.{plan-room}
-use Rattle.planner.proofs.Plans.{plan-shares, plan-kept}
+use Rattle.planner.proofs.PlanLaws.{plan-shares, plan-kept}
 use Rattle.clampfern.specs.Answer.{planned, answerText, Entered, Answered}
 use Rattle.clampfern.specs.declared.AnswerLines.{AnswerLines}
 use Rattle.clampfern.specs.Listed.{TextListed, of-set}

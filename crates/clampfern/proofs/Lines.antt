@@ -28,13 +28,13 @@ use Rattle.text.specs.Output.{planText, refusedText, refusalText, Writes}
 use Rattle.text.specs.declared.Reading.{Reading}
 use Rattle.text.specs.declared.Reading.the-variants.{Set, Refused as Unread}
 use Rattle.text.specs.declared.Written.{Written}
-use Rattle.planner.specs.Plan.{Plan, Counts, fitted, planOf, columnsOf, sharesIn, slicesIn, countsIn, saysPlanned}
+use Rattle.planner.specs.Plan.{Plan, Counts, fitted, planOf, columnsOf, sharesGiven as sharesIn, slicesGiven as slicesIn, countsIn, saysPlanned}
 use Rattle.rows.specs.Lists.{front}
 use Rattle.planner.specs.Promise.{Columned}
 use Rattle.planner.specs.declared.Planned.{Planned}
 use Rattle.planner.specs.declared.Planned.the-variants.{Plan as Counted, Refused}
-use Rattle.planner.proofs.Columned.{shares-front, slices-front}
-use Rattle.planner.proofs.Plans.{table-asks}
+use Rattle.planner.proofs.ColumnFronts.{shares-front, slices-front}
+use Rattle.planner.proofs.PlanLaws.{table-asks}
 use Rattle.clampfern.specs.Answer.{planned, linesFor, answerText}
 use Rattle.clampfern.proofs.Bounds.{small, narrow}
 

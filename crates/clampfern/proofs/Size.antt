@@ -14,9 +14,9 @@ use Rattle.text.specs.Hex.{linesOf, nibbleOf, pairsOf, bytesOf, digitsOf, textO
 use Rattle.text.specs.Input.{Input, jobIn, entryOf, jobsFrom, inputFrom, inputOf}
 use Rattle.text.specs.Output.{answerMost}
 use Rattle.text.proofs.PlanText.{plan-length}
-use Rattle.planner.specs.Most.{board, jobs, most-slices}
-use Rattle.planner.specs.Plan.{Plan, planOf, slicesIn}
-use Rattle.planner.proofs.Plans.{plan-kept}
+use Rattle.planner.proofs.Examples.{board, jobs, most-slices}
+use Rattle.planner.specs.Plan.{Plan, planOf, slicesGiven as slicesIn}
+use Rattle.planner.proofs.PlanLaws.{plan-kept}
 use Rattle.clampfern.specs.Answer.{planned, linesFor, answerText}
 use Rattle.clampfern.proofs.Bounds.{small}
 
@@ -40,7 +40,7 @@ answer-size text = go (inputOf text) where
   go (given input) = plan-size input (planned input) refl
   go (refused number place) = refused-size number place
 
--- The set of planner/specs/Most.antt as a text: 0103e80808, then its jobs.
+-- The set of planner/proofs/Examples.antt as a text: 0103e80808, then its jobs.
 abbrev asked : List ℕ
 asked =
     textOf

@@ -35,7 +35,7 @@ use Rattle.split.specs.Rows.{Row}
 use Rattle.slices.specs.Table.{tableOf}
 use Rattle.planner.specs.Listed.{BadCost, TooLong, Sound, stepsOn, ShortTables, Listed, window, cores, many, cost, long, room, space}
 use Rattle.planner.specs.Plan.{Plan, fitted, planOf}
-use Rattle.planner.proofs.Plans.{shares-accepted, accepted-few}
+use Rattle.planner.proofs.PlanLaws.{shares-accepted, accepted-few}
 
 -- ---- what the checks of one job tell
 cost-tells : (j : Job) → Tells (BadCost j) (badCost j)

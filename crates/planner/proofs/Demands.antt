@@ -9,6 +9,7 @@ use Prim.Native.Nat.{ℕ, _+_, _-_, _*_, _≤_, _<_}
 use native.Mathlib.Omega.{arith}
 use lib.ListN.{length, take, drop, getD, length-take, length-map, List·getD-map}
 use lib.Seq.{getD-take}
+use Rattle.rows.proofs.Lists.{all-at}
 use Rattle.model.specs.Board.{roomOf}
 use Rattle.model.specs.Empty.{noJob, noShare, noSlice}
 use Rattle.model.specs.Limits.{jobsMost}
@@ -24,7 +25,6 @@ use Rattle.model.specs.declared.Job.{Job}
 use Rattle.model.specs.declared.Refusal.{Refusal}
 use Rattle.model.specs.declared.Share.{Share}
 use Rattle.model.specs.declared.Slice.{Slice}
-use Rattle.rows.proofs.Lists.{all-at}
 use Rattle.model.proofs.Splits.{all-done-at}
 use Rattle.legal.specs.Lawful.{Lawful}
 use Rattle.legal.specs.Legal.{legalOf}
@@ -35,14 +35,14 @@ use Rattle.planner.specs.Promise.{Promised}
 use Rattle.planner.specs.declared.Planned.{Planned}
 use Rattle.planner.specs.declared.Planned.the-variants.{Plan, Refused}
 use Rattle.planner.proofs.Causes.{plan-listed, listed-plan, short-tables, lawful-left}
-use Rattle.planner.proofs.PromiseSaid.{counts-there, rows-pair, call-refused}
+use Rattle.planner.proofs.FromPromise.{plan-there, rows-pair, refusal-by-rules}
 
 -- ==== Demand 1. Any input at all is planned or refused by number and place. Nothing is left to the caller to check, every call ends, a
 -- refusal changes no entry of the lent tables.
 -- That nothing is left to check and that every call ends is what the contract of `plan` is: it has no `requires`, and a proof of it is a
 -- proof that the call ends.
 
--- A plan with a share for each job, or a refusal by number and place, with its cause: document 01's "Refusals by number", as Listed says it.
+-- A plan with a share for each job, or a refusal by number and place, with its cause, as `Listed` says it.
 abbrev pub PlannedOrRefused : Board → List Job → (m k : ℕ) → Answer Counts → Type 0
 PlannedOrRefused board js m k (given counts) = counts .jobs ≡ length js
 PlannedOrRefused board js m k (refused number place) = Listed board js m k number place
@@ -61,9 +61,9 @@ listed-small (space ss law is cause) = omega arith
 module _ {board : Board} {js : List Job} {ss ss′ : List Share} {ls ls′ : List Slice} where
   -- Any input at all is planned or refused by number and place.
   pub any-input-answered : (r : Planned) → Promised board js ss ls r ss′ ls′ → PlannedOrRefused board js (length ss) (length ls) (saysPlanned r)
-  any-input-answered (Plan jobs slices) p = counts-there p .all
+  any-input-answered (Plan jobs slices) p = plan-there p .all
   any-input-answered (Refused refusal) p =
-      plan-listed board js (length ss) (length ls) (numberOf refusal) (placeOf refusal) (call-refused p)
+      plan-listed board js (length ss) (length ls) (numberOf refusal) (placeOf refusal) (refusal-by-rules p)
 
   module _ {r : Planned} (p : Promised board js ss ls r ss′ ls′) where
     -- A refusal is given exactly when its line of the table applies, and no line above it.
@@ -103,18 +103,18 @@ module _ {board : Board} {js : List Job} {ss ss′ : List Share} {ls ls′ : Lis
     -- There is a share for each job, and as many rows as are counted are in the tables.
     pub rows-there : (jobs ≡ length js) × (jobs ≤ length ss′) × (slices ≤ length ls′)
     rows-there = (
-      counts-there p .all,
-      omega (arith, counts-there p .share-rows, length-take jobs ss′),
-      omega (arith, counts-there p .slice-rows, length-take slices ls′),
+      plan-there p .all,
+      omega (arith, plan-there p .share-rows, length-take jobs ss′),
+      omega (arith, plan-there p .slice-rows, length-take slices ls′),
     )
 
     -- The rows that are counted are those of the rules, one by one: `planOf` is the steps of the split, and the table of their shares.
     pub rows-by-rules : planOf board (length js) js (length ss) (length ls) ≡ given (record { shares = map ticksOfRow (take jobs ss′); slices = take slices ls′ })
-    rows-by-rules = counts-there p .by-rules
+    rows-by-rules = plan-there p .by-rules
 
     -- The rows past them stay as they were.
     pub rows-past : (drop jobs ss′ ≡ drop jobs ss) × (drop slices ls′ ≡ drop slices ls)
-    rows-past = (counts-there p .shares-past, counts-there p .slices-past)
+    rows-past = (plan-there p .shares-past, plan-there p .slices-past)
 
     -- At most m1 + m2 jobs move, at most one of them is not even, and there are at most n + 2·(m1 + m2) − 2 slices.
     pub movers-few : movers (map ticksOfRow (take jobs ss′)) ≤ board .first + board .second
@@ -124,7 +124,7 @@ module _ {board : Board} {js : List Job} {ss ss′ : List Share} {ls ls′ : Lis
     one-uneven = p .demand2 .one-uneven
 
     pub slices-few : slices + 2 ≤ length js + 2 * (board .first + board .second)
-    slices-few = omega (arith, p .demand2 .few, counts-there p .slice-rows)
+    slices-few = omega (arith, p .demand2 .few, plan-there p .slice-rows)
 
     -- Row i of the table of slices, and the share of job j.
     abbrev row : ℕ → Slice
@@ -134,7 +134,7 @@ module _ {board : Board} {js : List Job} {ss ss′ : List Share} {ls ls′ : Lis
     shareOf j = ticksOfRow (getD ss′ j noShare)
 
     share-at : (j : ℕ) → j < length js → getD (map ticksOfRow (take jobs ss′)) j (share 0 0) ≡ shareOf j
-    share-at j l = List·getD-map ticksOfRow (take jobs ss′) j noShare ∙ ap ticksOfRow (getD-take jobs ss′ j noShare (omega (arith, counts-there p .all)))
+    share-at j l = List·getD-map ticksOfRow (take jobs ss′) j noShare ∙ ap ticksOfRow (getD-take jobs ss′ j noShare (omega (arith, plan-there p .all)))
 
     -- Each job gets its whole work: its share, in whole ticks, does it,
     pub job-whole : (j : ℕ) → j < length js → DoneBy (board .window) 1 (getD js j noJob) (shareOf j)
@@ -145,13 +145,13 @@ module _ {board : Board} {js : List Job} {ss ss′ : List Share} {ls ls′ : Lis
     pub job-served : (kind : Kind) (j : ℕ) → j < length js → ticksIn kind j (take slices ls′) ≡ ticksOn kind (shareOf j)
     job-served kind j l =
         rw (share-at j l) at
-        (p .demand2 .timetable .served kind j (omega (arith, counts-there p .all, counts-there p .share-rows, length-map (take jobs ss′) ticksOfRow)))
+        (p .demand2 .timetable .served kind j (omega (arith, plan-there p .all, plan-there p .share-rows, length-map (take jobs ss′) ticksOfRow)))
 
     -- and each slice is of a job of the set, inside the window, and on a core that the board has.
     pub slice-inside : (i : ℕ) → i < slices → Inside board (length js) (row i)
     slice-inside i l =
-        rw (getD-take slices ls′ i noSlice l, length-map (take jobs ss′) ticksOfRow, counts-there p .share-rows, counts-there p .all) at
-        (all-at (Inside board (length (map ticksOfRow (take jobs ss′)))) noSlice (take slices ls′) i (omega (arith, counts-there p .slice-rows))
+        rw (getD-take slices ls′ i noSlice l, length-map (take jobs ss′) ticksOfRow, plan-there p .share-rows, plan-there p .all) at
+        (all-at (Inside board (length (map ticksOfRow (take jobs ss′)))) noSlice (take slices ls′) i (omega (arith, plan-there p .slice-rows))
         (p .demand2 .timetable .inside))
 
     -- No core runs two jobs at once: no tick is in two rows of one core.

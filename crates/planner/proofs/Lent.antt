@@ -32,12 +32,13 @@ use Rattle.split.specs.Shares.{sharesOf}
 use Rattle.split.proofs.Demands.{demands, exactly}
 use Rattle.split.proofs.Seen.{shares-read}
 use Rattle.slices.specs.Table.{tableOf}
-use Rattle.planner.specs.Plan.{Plan, Counts, fitted, planOf, sharesIn, slicesIn, countsIn, saysPlanned}
-use Rattle.planner.specs.Promise.{Filled, Unchanged, Served, Promised}
+use Rattle.planner.specs.Plan.{Plan, Counts, fitted, planOf, sharesGiven, slicesGiven, countsIn, saysPlanned}
+use Rattle.planner.specs.Promise.{Unchanged, Served, Promised}
+use Rattle.planner.specs.ByValue.{Filled}
 use Rattle.planner.specs.declared.Planned.{Planned}
 use Rattle.planner.specs.declared.Planned.the-variants.{Plan as Counted, Refused}
 use Rattle.planner.specs.declared.Tables.{Tables}
-use Rattle.planner.proofs.Plans.{plan-kept}
+use Rattle.planner.proofs.PlanLaws.{plan-kept}
 
 abbrev pub read : Kind → List Job → ℕ → List ℕ
 read kind js few = map (costOn kind) (take few js) ++ replicate (jobsMost - few) 0
@@ -63,7 +64,7 @@ module _ (board : Board) (js : List Job) (ss ss′ : List Share) (ls ls′ : Lis
   Stands r = Unchanged r ss ss′ ls ls′ × Served board js r ss′ ls′
 
   stands : (r : Planned) (x : Answer Plan) → planOf board (length js) js (length ss) (length ls) ≡ x → saysPlanned r ≡ countsIn x
-      → ss′ ≡ front (map rowOf (sharesIn x)) ss → ls′ ≡ front (slicesIn x) ls → Stands r
+      → ss′ ≡ front (map rowOf (sharesGiven x)) ss → ls′ ≡ front (slicesGiven x) ls → Stands r
   stands (Counted jobs slices) (given p) is says shares-are slices-are =
       let counts : _≡_ {A = Counts} (record { jobs = jobs; slices = slices }) (record { jobs = length (p .shares); slices = length (p .slices) }) = cc in
       let size : jobs ≡ length (map rowOf (p .shares)) = ap (λ (c : Counts). c .jobs) counts ∙ sym (length-map (p .shares) rowOf) in
@@ -130,17 +131,17 @@ lent board js ss ss′ ls ls′ few first second t few-is first-is second-is fil
     answer : saysPlanned (t .planned) ≡ countsIn (planOf board n js m k)
     answer = filled .says ∙ ap countsIn same
 
-    shares : ss′ ≡ front (map rowOf (sharesIn (planOf board n js m k))) ss
+    shares : ss′ ≡ front (map rowOf (sharesGiven (planOf board n js m k))) ss
     shares =
         shares-are ∙
-        rw (filled .shares, filled .shared, ← length-map (sharesIn (planOf board n (jobsIn n first second) m k)) rowOf)
-        (ap (λ (x : Answer Plan). front (map rowOf (sharesIn x)) ss) same)
+        rw (filled .shares, filled .shared, ← length-map (sharesGiven (planOf board n (jobsIn n first second) m k)) rowOf)
+        (ap (λ (x : Answer Plan). front (map rowOf (sharesGiven x)) ss) same)
 
-    slices : ls′ ≡ front (slicesIn (planOf board n js m k)) ls
+    slices : ls′ ≡ front (slicesGiven (planOf board n js m k)) ls
     slices =
         slices-are ∙
         rw (filled .slices, filled .sliced)
-        (ap (λ (x : Answer Plan). front (slicesIn x) ls) same)
+        (ap (λ (x : Answer Plan). front (slicesGiven x) ls) same)
 
     both : Stands board js ss ss′ ls ls′ (t .planned)
     both = stands board js ss ss′ ls ls′ (t .planned) (planOf board n js m k) refl answer shares slices

@@ -1,13 +1,33 @@
-pub mod Counted
-pub mod Slot
-pub mod Filling
-pub mod Rows
-pub mod Plans
-pub mod Columned
-pub mod PlanMoves
-pub mod Lent
-pub mod Determined
-pub mod Causes
-pub mod PromiseSaid
+-- Open Demands first. The proof that a function meets its contract is in the folder of its name; these are what such proofs cite, and the
+-- theorems over the promises.
+--
+-- The three demands of every call of `plan`, in their own words, from its promise and nothing else.
 pub mod Demands
-pub mod WrongPlanners
+-- What follows from that promise alone: the definition's cases, taken apart once for the page of demands.
+mod FromPromise
+-- Every refusal has the cause that specs/Listed.antt gives it, and every cause its refusal.
+pub mod Causes
+-- Wrong planners that meet no promise. No promise needs this: it shows how much the promise of `plan` says.
+mod WrongPlanners
+-- Each promise allows one result alone. No promise needs this either.
+mod Determined
+-- Two sets that reach the bounds of a plan, worked out.
+pub mod Examples
+--
+-- The laws of plans: what an answer counts, and that a plan keeps demand 2.
+pub mod PlanLaws
+-- The first numbers of a column are what was put there.
+pub mod ColumnFronts
+-- The promise of `plan_columns`, of each of its answers.
+mod PlanColumns
+-- The promise of `plan_tables`, from that of `plan_columns`.
+mod PlanTables
+-- The promise of `plan`, from that of `plan_tables` and of the functions over rows of records.
+pub mod Lent
+-- The promise of `moves`; and how many moves a plan has, a theorem that no promise needs.
+pub mod PlanMoves
+--
+-- What the walks by hand over lent rows of records share: a count that goes up, and the rows written so far.
+mod Counted
+-- And the slot of a local array, taken apart and put together.
+pub mod Slot

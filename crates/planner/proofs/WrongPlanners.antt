@@ -1,7 +1,7 @@
--- Wrong planners that the promise of the planning call shuts out: document 01, "How much each promise says". A planner is any function of
--- the board, the jobs and the two lent tables. Each theorem takes one that goes wrong in some way and meets the promise, and ends in ⊥; all
--- but the last by a small set, on a board with one core of each kind and a window of 10. They cite the theorems of Demands.antt and no part
--- of the promise itself. (That page reads the causes of demand 1 and the rows of demand 2 from the answer and the rows that the promise tells.)
+-- Wrong planners that the promise of the planning call shuts out: docs/PROMISES.md, "planner". A planner is any function of the board, the jobs
+-- and the two lent tables. Each theorem takes one that goes wrong in some way and meets the promise, and ends in ⊥; all but the last by a
+-- small set, on a board with one core of each kind and a window of 10. They cite the theorems of Demands.antt and no part of the promise
+-- itself. (That page reads the causes of demand 1 and the rows of demand 2 from the answer and the rows that the promise tells.)
 --   refuses-everything      demands 1 and 3: no line of the table of refusals applies to the empty set, and it has a split
 --   one-plan                demand 2: a job on the first kind alone has ticks there, and one on the second alone has none
 --   no-shares-written       demand 2: a share does the job's work
@@ -20,9 +20,9 @@ use borrow.Author.Tests.{ltb-true, ltb-false}
 use lib.Dec.{ltb}
 use lib.ListN.{length, take, getD, replicate}
 use lib.Seq.{getD-take, length-take-le}
+use Rattle.rows.specs.Lists.{All}
 use Rattle.model.specs.Board.{sameKind, roomOf}
 use Rattle.model.specs.Empty.{noShare, noSlice}
-use Rattle.rows.specs.Lists.{All}
 use Rattle.model.specs.Split.{Ticks, share, ticksOf, AllDone}
 use Rattle.model.specs.Timetable.{isOf, ticksIn}
 use Rattle.model.specs.declared.Kind.{Kind}
@@ -36,11 +36,12 @@ use Rattle.model.specs.declared.Slice.{Slice}
 use Rattle.legal.specs.Lawful.{LegalJob, Lawful}
 use Rattle.split.specs.Home.{stretchedAt}
 use Rattle.split.specs.Promise.{stretchedOn, SmallerSplit}
-use Rattle.planner.specs.Plan.{planOf, slicesIn}
+use Rattle.planner.specs.Plan.{planOf, slicesGiven}
 use Rattle.planner.specs.Promise.{Promised}
 use Rattle.planner.specs.declared.Planned.{Planned}
 use Rattle.planner.specs.declared.Planned.the-variants.{Plan as Counted, Refused}
 use Rattle.planner.proofs.Demands.{rows-there, rows-by-rules, job-whole, job-served, slice-inside, split-planned}
+use Rattle.planner.proofs.PlanLaws.{never}
 
 pub record Result : Type 0 where
   pub answer : Planned
@@ -155,8 +156,7 @@ refuses-everything f refuses meets =
     let x = refuses tiny [] shares slices in
     let y = planned-is f meets none in
     let e : Refused (x .0) ≡ Counted (y .0) (y .1) = sym (x .1) ∙ y .2 in
-    let z : _≡_ {A = ℕ} 0 1 = cc in
-    omega arith
+    never (cc)
 
 -- ---- The same plan whatever the set.
 pub one-plan : (f : Planner)
@@ -219,12 +219,11 @@ copied-slices f copies meets =
     let e = copies tiny (first ∷ second ∷ []) shares slices _ _ (a .0) (planned-is f meets two .2) (a .1) in
     let g = copies tiny (first ∷ second ∷ []) shares slices _ _ (b .0) (planned-is f meets two .2) (b .1) in
     let same : First ≡ Second = cc in
-    let z : _≡_ {A = ℕ} 0 1 = cc in
-    omega arith
+    never (cc)
 
 -- ---- A count of slices that is not the length of the rules' table.
 pub invented-count : (f : Planner) (board : Board) (js : List Job) (ss : List Share) (ls : List Slice) (jobs rows : ℕ)
-    → f board js ss ls .answer ≡ Counted jobs rows → (rows ≡ length (slicesIn (planOf board (length js) js (length ss) (length ls))) → ⊥) → Meets f → ⊥
+    → f board js ss ls .answer ≡ Counted jobs rows → (rows ≡ length (slicesGiven (planOf board (length js) js (length ss) (length ls))) → ⊥) → Meets f → ⊥
 invented-count f board js ss ls jobs rows is wrong meets =
     let p : Promised board js ss ls (Counted jobs rows) (f board js ss ls .shares) (f board js ss ls .slices) = rw is at (meets board js ss ls) in
-    wrong (sym (ap (λ x. length (slicesIn x)) (rows-by-rules p) ∙ length-take-le rows (f board js ss ls .slices) (rows-there p .2)))
+    wrong (sym (ap (λ x. length (slicesGiven x)) (rows-by-rules p) ∙ length-take-le rows (f board js ss ls .slices) (rows-there p .2)))

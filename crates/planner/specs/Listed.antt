@@ -1,14 +1,16 @@
--- The refusals of a set: document 01, "Refusals by number", line by line from 1 to 7. Each line has its number, its place and its cause, and
--- says that no line above it applies. A call is refused exactly so: `refused-exactly` in proofs/Demands.antt.
---   Outside      a number that is not in 1 to a limit
---   BadCost      line 4, of one job: a cost on a kind that it may use is outside 1 to the limit
---   TooLong      line 5, of one job: all its costs on the kinds that it may use are above W
---   LowestOf     a job of the set of which something holds that holds of none before it
---   Sound        a board to which lines 1 and 2 do not apply
---   stepsOn      what the steps of the split answer, on the rooms of a board
---   ShortTables  tables of m shares and k slices that may be too short: m is below the count of jobs, or k below the most slices of a plan
---                of them
---   Listed       a refusal of the jobs js on a board, for tables of m shares and k slices
+-- Internal: no public promise cites this. The theorems on the page of demands do, so read it with them.
+-- The refusals of a set, line by line from 1 to 7: docs/SPEC.md, "Which sets are legal" for 1 to 5, "The steps" for 6, "The slices" for 7.
+-- Each line has its number, its place and its cause, and says that no line above it applies. A call is refused exactly so:
+-- `refused-exactly` in proofs/Demands.antt.
+--   Outside       a number that is not in 1 to a limit
+--   BadCost       line 4, of one job: a cost on a kind that it may use is outside 1 to the limit
+--   TooLong       line 5, of one job: all its costs on the kinds that it may use are above W
+--   LowestOf      a job of the set of which something holds that holds of none before it
+--   Sound         a board to which lines 1 and 2 do not apply
+--   stepsOn       what the steps of the split answer, on the rooms of a board
+--   ShortTables   tables of m shares and k slices that may be too short: m is below the count of jobs, or k below the most slices of a plan
+--                 of them
+--   Listed        a refusal of the jobs js on a board, for tables of m shares and k slices
 -- Assumes nothing.
 use mathlib.Core.List.{List}
 use mathlib.Core.Logic.{_⊎_}

@@ -1,15 +1,20 @@
--- What the code that places the slices asks and promises, over the table of specs/Table.antt of crate slices.
+-- Internal: no public promise cites this. What the code that places the slices asks and promises, src/packing.rt, over the table of crate
+-- slices, specs/Table.antt.
 --   classOf     the jobs that a pass places
---   shareOn     the share of a job by its ticks on a kind and on the other; sharesOn, of columns
+--   shareOn     the share of a job by its ticks on a kind and on the other
+--   sharesOn    the shares of two columns, of which one is of a kind and one of the other
 --   Filling     a table that is being filled: its column, how many rows there are so far, and the position on the kind where the next run begins
---   fillingOf   the same, by the row, the core and the place there where the code puts the next slice; begun, where a kind begins
+--   fillingOf   the same, by the row, the core and the place there where the code puts the next slice
+--   begun       where the code begins a kind, with so many rows before it
 --   written     a column after numbers are written one behind the other from a row on
---   placed      a table that is being filled after one more piece, and `filled` after several
+--   placed      a table that is being filled after one more piece
+--   filled      the same after several
 --   passed      the same after a pass over shares, whose jobs are numbered from i
---   Sized       shares of a legal size
+--   Sized       shares of a legal size: not too many, and each job's two within the window
 --   Asks        what has to be known where the code begins, by the table that it ends with: it has the rows and the cores
---   Stands      the code stands where a table that is being filled is; Rowed, only its rows are kept
---   TableAsks   what the whole asks
+--   Stands      the code stands where a table that is being filled is
+--   Rowed       the rows of such a table are there, and are counted
+--   TableAsks   what the whole asks: a window within its limits, shares that the most cores have room for, and no more slices than the most
 --   Tabled      a column that has the definition's rows, with the other rows as they were
 -- Assumes nothing.
 use mathlib.Core.Bool.{Bool}
@@ -17,9 +22,9 @@ use mathlib.Core.List.{List, [], _∷_, _++_, map}
 use mathlib.Core.Path.{_≡_}
 use Prim.Native.Nat.{ℕ, _+_, _*_, _≤_, _<_}
 use lib.ListN.{length, drop, set}
-use Rattle.model.specs.Board.{on}
 use Rattle.rows.specs.Upto.{upto, at}
 use Rattle.rows.specs.Lists.{All}
+use Rattle.model.specs.Board.{on}
 use Rattle.model.specs.Limits.{windowMost, coresMost, jobsMost, slicesMost}
 use Rattle.model.specs.Packed.{packOf}
 use Rattle.model.specs.Split.{Ticks, share, ticksOf}
@@ -69,7 +74,6 @@ filled k w t (p ∷ ps) = filled k w (placed k w t p) ps
 abbrev pub passed : Class → Kind → ℕ → Filling → ℕ → List Ticks → Filling
 passed class k w t i ss = filled k w t (chosen (classOf class k w) k i ss)
 
--- Not too many, and each job's two within the window.
 pub record Sized (w : ℕ) (ss : List Ticks) : Type 0 where
   pub few : length ss ≤ jobsMost
   pub each : All (λ (s : Ticks). s .first + s .second ≤ w) ss

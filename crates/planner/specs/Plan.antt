@@ -1,13 +1,14 @@
--- The plan of a set: its shares, and the table of slices that they give. Refusals 1 to 6, then 7.
---   Plan         the shares of the jobs, and the table
---   fitted       refusal 7 where a lent table has too few rows
---   planOf       the plan of any set, for tables of m shares and k slices
---   sharesIn, slicesIn   the rows to be written: none where the set is refused
---   countsIn     what the planning call answers: the counts of both
---   saysPlanned  what the code's answer says, in document 01's terms
---   short        columns of which one is too short for the plan of some set
---   columnsOf    the plan of any set, for columns: refusal 7 where one is short
---   noRows, fitOf        what the code makes of an answer for lent tables: refusal 7 where one has too few rows
+-- The plan of a set: its shares, and the table of slices that they give. Refusals 1 to 6, then 7: docs/SPEC.md, "The slices".
+--   Plan                       the shares of the jobs, and the table
+--   planFrom                   the plan of given shares
+--   fitted                     refusal 7 where a lent table has too few rows
+--   planOf                     the plan of any set, for tables of m shares and k slices
+--   sharesGiven, slicesGiven   the rows that an answer gives: none where the set is refused
+--   Counts                     how many shares a plan has, and how many slices
+--   countsIn                   what the planning call answers: the counts of both
+--   saysPlanned                what the code's answer says: counts, or a refusal by its number and its place
+--   tooShort                   columns of m1 and m2 ticks and k slices that cannot hold the plan of every set
+--   columnsOf                  the plan of any set, for such columns: refusal 7 where one is too short, whatever the set
 -- Assumes nothing.
 use mathlib.Core.Bool.{Bool, cond, _||_}
 use mathlib.Core.List.{List, []}
@@ -19,12 +20,9 @@ use Rattle.model.specs.Refusal.{Answer, given, refused, saysRefusal, andThen}
 use Rattle.model.specs.Split.{Ticks}
 use Rattle.model.specs.declared.Board.{Board}
 use Rattle.model.specs.declared.Job.{Job}
-use Rattle.model.specs.declared.Refusal.{Refusal}
-use Rattle.model.specs.declared.Refusal.the-variants.{TooShort}
 use Rattle.model.specs.declared.Slice.{Slice}
-use Rattle.slices.specs.Table.{tableOf}
 use Rattle.split.specs.Shares.{sharesOf}
-use Rattle.planner.specs.declared.Fitted.{Fitted}
+use Rattle.slices.specs.Table.{tableOf}
 use Rattle.planner.specs.declared.Planned.{Planned}
 use Rattle.planner.specs.declared.Planned.the-variants.{Plan as Counted, Refused}
 
@@ -32,20 +30,22 @@ pub record Plan : Type 0 where
   pub shares : List Ticks
   pub slices : List Slice
 
+abbrev pub planFrom : Board → List Ticks → Plan
+planFrom board ss = record { shares = ss; slices = tableOf (board .window) ss }
+
 abbrev pub fitted : (m k : ℕ) → Plan → Answer Plan
 fitted m k p = cond (ltb m (length (p .shares)) || ltb k (length (p .slices))) (refused 7 0) (given p)
 
 abbrev pub planOf : Board → ℕ → List Job → (m k : ℕ) → Answer Plan
-planOf board n js m k =
-    andThen (sharesOf board n js) (λ (ss : List Ticks). fitted m k (record { shares = ss; slices = tableOf (board .window) ss }))
+planOf board n js m k = andThen (sharesOf board n js) (λ (ss : List Ticks). fitted m k (planFrom board ss))
 
-abbrev pub sharesIn : Answer Plan → List Ticks
-sharesIn (given p) = p .shares
-sharesIn (refused number place) = []
+abbrev pub sharesGiven : Answer Plan → List Ticks
+sharesGiven (given p) = p .shares
+sharesGiven (refused number place) = []
 
-abbrev pub slicesIn : Answer Plan → List Slice
-slicesIn (given p) = p .slices
-slicesIn (refused number place) = []
+abbrev pub slicesGiven : Answer Plan → List Slice
+slicesGiven (given p) = p .slices
+slicesGiven (refused number place) = []
 
 pub record Counts : Type 0 where
   pub jobs : ℕ
@@ -59,19 +59,9 @@ abbrev pub saysPlanned : Planned → Answer Counts
 saysPlanned (Counted jobs slices) = given (record { jobs = jobs; slices = slices })
 saysPlanned (Refused r) = saysRefusal r
 
--- Columns of m1 and m2 ticks and k slices that cannot hold the plan of every set.
-abbrev pub short : (m1 m2 k : ℕ) → Bool
-short m1 m2 k = ltb m1 jobsMost || ltb m2 jobsMost || ltb k slicesMost
+abbrev pub tooShort : (m1 m2 k : ℕ) → Bool
+tooShort m1 m2 k = ltb m1 jobsMost || ltb m2 jobsMost || ltb k slicesMost
 
 abbrev pub columnsOf : Board → ℕ → List Job → (m1 m2 k : ℕ) → Answer Plan
 columnsOf board n js m1 m2 k =
-    andThen (sharesOf board n js)
-    (λ (ss : List Ticks). cond (short m1 m2 k) (refused 7 0) (given (record { shares = ss; slices = tableOf (board .window) ss })))
-
-abbrev pub noRows : Refusal → Fitted
-noRows r = record { planned = Refused r; shared = 0; sliced = 0 }
-
-abbrev pub fitOf : Planned → (m k : ℕ) → Fitted
-fitOf (Refused r) m k = noRows r
-fitOf (Counted jobs rows) m k =
-    cond (ltb m jobs || ltb k rows) (noRows TooShort) (record { planned = Counted jobs rows; shared = jobs; sliced = rows })
+    andThen (sharesOf board n js) (λ (ss : List Ticks). cond (tooShort m1 m2 k) (refused 7 0) (given (planFrom board ss)))

@@ -1,17 +1,15 @@
--- The moves of a planned set: document 01, "Moves". A refused set gets its refusal instead.
---   movesBelow   the moves of each job below n, in order
---   movesIn      the moves of each job of a plan: none where the set is refused
---   outers, inners   the outer moves of all jobs together, and the inner ones
---   noMoves      what stands in rows that are not used
---   roomyPlan    the plan of a set, for tables that are long enough for every set
---   MovesPromised       what the call for moves promises: what the planning call answers, and every row
+-- The moves of a planned set: docs/SPEC.md, "Moves". A refused set gets its refusal instead.
+--   movesBelow      the moves of each job below n, in order
+--   movesIn         the moves of each job of a plan: none where the set is refused
+--   noMoves         what stands in rows that are not used
+--   roomyPlan       the plan of a set, for tables that are long enough for every set
+--   MovesPromised   what the call for moves promises: what the planning call answers, and every row
 -- Assumes nothing.
 use mathlib.Core.List.{List, [], _∷_, _++_}
 use mathlib.Core.Path.{_≡_}
 use Prim.Native.Nat.{ℕ, zero, suc, _-_}
 use lib.ListN.{length, replicate}
 use Rattle.model.specs.Limits.{jobsMost, slicesMost}
-use Rattle.rows.specs.Lists.{sumOf}
 use Rattle.model.specs.Refusal.{Answer, given, refused}
 use Rattle.model.specs.declared.Board.{Board}
 use Rattle.model.specs.declared.Job.{Job}
@@ -28,12 +26,6 @@ movesBelow rows (suc n) = movesBelow rows n ++ (movesOf rows n ∷ [])
 abbrev pub movesIn : Answer Plan → List Moves
 movesIn (given p) = movesBelow (p .slices) (length (p .shares))
 movesIn (refused number place) = []
-
-abbrev pub outers : List Moves → ℕ
-outers ms = sumOf (λ (m : Moves). m .outer) ms
-
-abbrev pub inners : List Moves → ℕ
-inners ms = sumOf (λ (m : Moves). m .inner) ms
 
 abbrev pub noMoves : Moves
 noMoves = record { outer = 0; inner = 0 }

@@ -1,24 +1,22 @@
--- What the planning call promises.
---   Columned     the plan in columns: the answer, and every number of each column
---   Filled       the plan by value: the answer, and the rows that are to be written
---   Unchanged    demand 1: a refusal changes no row of the lent tables
---   GoodPlan         what demand 2 says of a plan: its shares are a split in whole ticks, at most m1 + m2 of them move and at most one mover is
---                not even, and its rows are a timetable of them, at most n + 2·(m1 + m2) − 2
---   Served       demand 2: an accepted plan is one of which this is kept
---   ForRoom      demand 3: a refusal for room, and when exactly it is given
---   Promised     the lent planning call: the answer, every row of both tables, and the three demands in their own words
+-- What the planning call promises: docs/SPEC.md, "What is promised of every set".
+--   Columned    the plan in columns: the answer, and every number of each column
+--   Unchanged   demand 1: a refusal changes no row of the lent tables
+--   GoodPlan    what demand 2 says of a plan: its shares are a split in whole ticks, at most m1 + m2 of them move and at most one mover is
+--               not even, and its rows are a timetable of them, at most n + 2·(m1 + m2) − 2
+--   Served      demand 2: an accepted plan is a good one
+--   ForRoom     demand 3: a refusal for room, and when exactly it is given
+--   Promised    the lent planning call: the answer, every row of both tables, and the three demands in their own words
 -- Assumes nothing.
 use mathlib.Core.List.{List, map}
 use mathlib.Core.Logic.{_↔_}
 use mathlib.Core.Path.{_≡_}
 use Prim.Native.Nat.{ℕ, _+_, _*_, _≤_}
 use lib.ListN.{length, take}
+use Rattle.rows.specs.Lists.{front}
 use Rattle.model.specs.Board.{roomOf}
-use Rattle.model.specs.Limits.{jobsMost, slicesMost}
 use Rattle.model.specs.Movers.{movers, unevens}
 use Rattle.model.specs.Refusal.{given, refused}
-use Rattle.model.specs.Columns.{sharesIn as sharesFrom}
-use Rattle.model.specs.Packed.{packOf, slicesIn as slicesFrom}
+use Rattle.model.specs.Packed.{packOf}
 use Rattle.model.specs.ShareRow.{rowOf, ticksOfRow}
 use Rattle.model.specs.Split.{Ticks, ticksOn, WholeSplit}
 use Rattle.model.specs.Timetable.{Timetable}
@@ -29,30 +27,16 @@ use Rattle.model.specs.declared.Share.{Share}
 use Rattle.model.specs.declared.Slice.{Slice}
 use Rattle.legal.specs.Legal.{legalOf}
 use Rattle.split.specs.Promise.{SplitOn, SmallerSplit, stretchedOn}
-use Rattle.planner.specs.Plan.{planOf, columnsOf, sharesIn, slicesIn, countsIn, saysPlanned}
-use Rattle.rows.specs.Lists.{front}
+use Rattle.planner.specs.Plan.{planOf, columnsOf, sharesGiven, slicesGiven, countsIn, saysPlanned}
 use Rattle.planner.specs.declared.Planned.{Planned}
 use Rattle.planner.specs.declared.Planned.the-variants.{Plan, Refused}
-use Rattle.planner.specs.declared.Tables.{Tables}
 
 -- What the columns hold before the call, and after it with a prime: new numbers at the front of each, and the others as they were.
 pub record Columned (board : Board) (n : ℕ) (js : List Job) (s1 s2 rows : List ℕ) (r : Planned) (s1′ s2′ rows′ : List ℕ) : Type 0 where
   pub says : saysPlanned r ≡ countsIn (columnsOf board n js (length s1) (length s2) (length rows))
-  pub first : s1′ ≡ front (map (ticksOn First) (sharesIn (columnsOf board n js (length s1) (length s2) (length rows)))) s1
-  pub second : s2′ ≡ front (map (ticksOn Second) (sharesIn (columnsOf board n js (length s1) (length s2) (length rows)))) s2
-  pub slices : rows′ ≡ front (map packOf (slicesIn (columnsOf board n js (length s1) (length s2) (length rows)))) rows
-
--- For tables of m shares and k slices: the rows that are to be written.
-pub record Filled (board : Board) (n : ℕ) (js : List Job) (m k : ℕ) (t : Tables) : Type 0 where
-  pub says : saysPlanned (t .planned) ≡ countsIn (planOf board n js m k)
-  pub shared : t .shared ≡ length (sharesIn (planOf board n js m k))
-  pub sliced : t .sliced ≡ length (slicesIn (planOf board n js m k))
-  pub shares : sharesFrom (t .shared) (t .first) (t .second) ≡ sharesIn (planOf board n js m k)
-  pub slices : slicesFrom (t .sliced) (t .slices) ≡ slicesIn (planOf board n js m k)
-  pub few-shares : t .shared ≤ jobsMost
-  pub fit-shares : t .shared ≤ m
-  pub few-slices : t .sliced ≤ slicesMost
-  pub fit-slices : t .sliced ≤ k
+  pub first : s1′ ≡ front (map (ticksOn First) (sharesGiven (columnsOf board n js (length s1) (length s2) (length rows)))) s1
+  pub second : s2′ ≡ front (map (ticksOn Second) (sharesGiven (columnsOf board n js (length s1) (length s2) (length rows)))) s2
+  pub slices : rows′ ≡ front (map packOf (slicesGiven (columnsOf board n js (length s1) (length s2) (length rows)))) rows
 
 abbrev pub Unchanged : Planned → (ss ss′ : List Share) → (ls ls′ : List Slice) → Type 0
 Unchanged (Plan jobs slices) ss ss′ ls ls′ = Unit {0}
@@ -77,8 +61,8 @@ pub record ForRoom (board : Board) (js : List Job) (r : Planned) : Type 0 where
 -- The jobs js, and tables that held ss and ls, and hold ss′ and ls′ after the call.
 pub record Promised (board : Board) (js : List Job) (ss : List Share) (ls : List Slice) (r : Planned) (ss′ : List Share) (ls′ : List Slice) : Type 0 where
   pub answer : saysPlanned r ≡ countsIn (planOf board (length js) js (length ss) (length ls))
-  pub shares : ss′ ≡ front (map rowOf (sharesIn (planOf board (length js) js (length ss) (length ls)))) ss
-  pub slices : ls′ ≡ front (slicesIn (planOf board (length js) js (length ss) (length ls))) ls
+  pub shares : ss′ ≡ front (map rowOf (sharesGiven (planOf board (length js) js (length ss) (length ls)))) ss
+  pub slices : ls′ ≡ front (slicesGiven (planOf board (length js) js (length ss) (length ls))) ls
   pub demand1 : Unchanged r ss ss′ ls ls′
   pub demand2 : Served board js r ss′ ls′
   pub demand3 : ForRoom board js r

@@ -1,7 +1,7 @@
-// The planning call: shares, then slices, into tables that the caller lends.
+// The planning call: shares, then slices, into tables that the caller lends. What it promises is in specs/Promise.antt, the plan in specs/Plan.antt.
 //
-// One core serves every caller: `plan_columns`, over columns of numbers (crate model, specs/Columns.antt and specs/Packed.antt), which callers with a text
-// call as it is. `plan` is the call over lent records: the few functions over them only read or write rows, one by one.
+// One core serves every caller: `plan_columns`, over columns of numbers (crate model, specs/Columns.antt and specs/Packed.antt), which callers
+// with a text call as it is. `plan` is the call over lent records: the few functions over them only read or write rows, one by one.
 mod packing;
 
 ghost use mathlib.Core.Path.{_≡_};
@@ -14,8 +14,9 @@ ghost use Rattle.model.specs.Packed.{sliceIn, slicesIn};
 ghost use Rattle.model.specs.ShareRow.{rowOf};
 ghost use Rattle.model.specs.Split.{share};
 ghost use Rattle.planner.specs.PlanMoves.{movesBelow, noMoves, MovesPromised};
-ghost use Rattle.planner.specs.Plan.{fitOf, noRows, short};
-ghost use Rattle.planner.specs.Promise.{Columned, Filled, Promised};
+ghost use Rattle.planner.specs.Plan.{tooShort};
+ghost use Rattle.planner.specs.ByValue.{fitOf, noRows, Filled};
+ghost use Rattle.planner.specs.Promise.{Columned, Promised};
 use model::Board;
 use model::FirstTicks;
 use model::JOBS_MOST;
@@ -59,8 +60,8 @@ pub struct PlannedMoves {
 }
 
 // Whether columns are too short for some set.
-fn is_short(first: usize, second: usize, slices: usize) -> bool
-    ensures { λ r. ⌜ r ≡ short first second slices ⌝ }
+fn are_too_short(first: usize, second: usize, slices: usize) -> bool
+    ensures { λ r. ⌜ r ≡ tooShort first second slices ⌝ }
 {
     if first < JOBS_MOST {
         return true;
@@ -79,12 +80,12 @@ fn put_ticks(ticks: [u16; JOBS_MOST], n: usize, column: &mut [u16])
     let mut i: usize = 0;
     while i < n {
         column[i] = ticks[i];
-        i = i + 1;
+        i += 1;
     }
 }
 
-// The plan of the first `n` jobs of two columns of costs, into columns of its shares and its slices. More than 64 jobs can be asked for, and are refused.
-// Columns that are too short for some set are refused by 7, last of all.
+// The plan of the first `n` jobs of two columns of costs, into columns of its shares and its slices. More than 64 jobs can be asked for, and are
+// refused. Columns that are too short for some set are refused by 7, last of all.
 pub fn plan_columns(
     board: Board,
     first: &[u32; JOBS_MOST],
@@ -101,7 +102,7 @@ pub fn plan_columns(
     match outcome {
         Outcome::Refused(refusal) => Planned::Refused(refusal),
         Outcome::Shares(count) => {
-            if is_short(shares1.len(), shares2.len(), slices.len()) {
+            if are_too_short(shares1.len(), shares2.len(), slices.len()) {
                 return Planned::Refused(Refusal::TooShort);
             }
             let ticks1 = shared.first;
@@ -178,7 +179,7 @@ fn plan_tables(
         sliced: fitted.sliced,
         first: shares1,
         second: shares2,
-        slices: slices,
+        slices,
     }
 }
 
@@ -190,7 +191,7 @@ fn rows_of(slices: [u64; SLICES_MOST]) -> [Slice; SLICES_MOST]
     let mut i: usize = 0;
     while i < SLICES_MOST {
         rows[i] = model::slice_in(slices[i]);
-        i = i + 1;
+        i += 1;
     }
     rows
 }
@@ -205,7 +206,7 @@ fn moves_below(rows: [Slice; SLICES_MOST], sliced: usize, n: usize) -> [Moves; J
     while i < n {
         let of_job = slices::moves_of(rows, sliced, i as u8);
         moves[i] = of_job;
-        i = i + 1;
+        i += 1;
     }
     moves
 }
@@ -280,7 +281,8 @@ fn put_slices(table: &mut [Slice], slices: [u64; SLICES_MOST], n: usize)
     }
 }
 
-// The plan of any number of jobs, into lent tables.
+// The plan of any number of jobs, into lent tables: the call for those who keep jobs, shares and slices as records. Callers with a text go through
+// `plan_columns`, so no other source calls this one but the program `facts`, which runs it with tables that are too short, exact and longer.
 pub fn plan(board: Board, jobs: &[Job], shares: &mut [Share], slices: &mut [Slice]) -> Planned
     ensures { λ r. ⌜ Promised board (now (jobs .entry)) (now (shares .entry)) (now (slices .entry)) r (now (shares .exit)) (now (slices .exit)) ⌝ }
 {

@@ -1,4 +1,7 @@
-// The table of slices of shares that fit a board, by the order and the cuts of document 01's "The slices".
+// The table of slices of shares that fit a board: docs/SPEC.md, "The slices". Its definition is `tableOf` of crate slices, specs/Table.antt.
+// The code stands here, for it is not free of `requires` yet: `table` asks for shares that fit a board and for a column that holds their slices
+// (specs/Packing.antt), which the planning call knows of the split's. With a check of both, and a refusal, it would be a public call of crate slices.
+//
 // Each kind is packed in three passes over the jobs: the even movers, the mover that is not even, and those that are on this kind only.
 // A pass knows a job's ticks on its own kind and on the other: the same code serves both kinds, with the two columns exchanged.
 ghost use mathlib.Core.Path.{_≡_};
@@ -17,17 +20,17 @@ ghost use Rattle.planner.specs.Packing.{classOf, shareOn, sharesOn, fill
 use model::Kind;
 
 // The jobs that one pass over a kind places.
-pub(crate) enum Class {
+enum Class {
     Even,
     Other,
     Alone,
 }
 
 // Where the next slice goes: its row, its core, and its place there.
-pub(crate) struct Spot {
-    pub(crate) count: usize,
-    pub(crate) core: u32,
-    pub(crate) at: u32,
+struct Spot {
+    count: usize,
+    core: u32,
+    at: u32,
 }
 
 // Whether a job moves between the kinds.
@@ -70,7 +73,7 @@ fn start_of(kind: Kind, w: u32, at: u32, length: u32) -> u32
     }
 }
 
-// A job's slice at a place of a core, as one number.
+// A job's slice at a place of a core, as one number: crate model, specs/Packed.antt.
 fn slice_of(kind: Kind, w: u32, job: usize, core: u32, at: u32, length: u32) -> u64
     requires { ⌜ (w ≤ windowMost) × (job < jobsMost) × (at + length ≤ w) ⌝ }
     ensures { λ r. ⌜ r ≡ packOf (sliceOf kind w job core at length) ⌝ }
@@ -97,7 +100,7 @@ fn put_run(kind: Kind, w: u32, job: usize, ticks: u32, p: Spot, slices: &mut [u6
         slices[count] = slice_of(kind, w, job, core, at, ticks);
         return Spot {
             count: count + 1,
-            core: core,
+            core,
             at: at + ticks,
         };
     }
@@ -158,7 +161,7 @@ fn pack(
     let mut i: usize = 0;
     while i < n {
         p = put_job(class, kind, w, i, mine[i], other[i], p, slices);
-        i = i + 1;
+        i += 1;
     }
     p
 }
@@ -178,7 +181,7 @@ fn pack_kind(
     ensures { λ r. ⌜ Rowed (filled kind w (fillingOf w (now (slices .entry)) (begun count)) (piecesOf kind w (sharesOn kind n (now (mine .entry)) (now (other .entry))))) (now (slices .exit)) r ⌝ }
 {
     let start = Spot {
-        count: count,
+        count,
         core: 0,
         at: 0,
     };

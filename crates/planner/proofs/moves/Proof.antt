@@ -8,7 +8,7 @@ use Rattle.model.specs.Columns.{jobsIn}
 use Rattle.model.specs.Limits.{jobsMost, slicesMost}
 use Rattle.split.specs.Shares.{sharesOf}
 use Rattle.split.proofs.Seen.{shares-costs}
-use Rattle.planner.proofs.PlanMoves.{moving-filled}
+use Rattle.planner.proofs.PlanMoves.{moves-promised}
 use Rattle.planner.proofs.moves.Statement.{statement}
 use Rattle.planner.proofs.moves.Tie as tie
 
@@ -36,7 +36,7 @@ returns c =
     let same : sharesOf (a .board) (a .n) (jobsIn (a .n) (p .before .before .costs .result) (p .before .costs2 .result))
     ≡ sharesOf (a .board) (a .n) (take (a .n) (a .jobs)) =
     rw (p .before .before .costs .ensures, p .before .costs2 .ensures) (shares-costs (a .board) (a .n) (a .jobs) all) in
-    moving-filled (a .board) (a .n) _ (take (a .n) (a .jobs)) (p .plan-tables .result) _ _ same (p .plan-tables .ensures)
+    moves-promised (a .board) (a .n) _ (take (a .n) (a .jobs)) (p .plan-tables .result) _ _ same (p .plan-tables .ensures)
     (omega (arith, p .plan-tables .ensures .few-slices)) (c .before .rows-of .ensures) (c .moves-below .ensures)
 
 pub moves-spec : {M : Type 1} → statement M

@@ -5,13 +5,14 @@ use Prim.Native.Nat.{_-_, _≤_}
 use native.Mathlib.Omega.{arith}
 use borrow.Author.Needs.{needs}
 use lib.ListN.{take, replicate}
+use Rattle.model.specs.Limits.{jobsMost}
 use Rattle.planner.specs.PlanMoves.{movesBelow, noMoves}
 use Rattle.planner.proofs.PlanMoves.{below-fill}
 use Rattle.planner.proofs.moves_below.Statement.{statement}
 use Rattle.planner.proofs.moves_below.Tie as tie
 
 abbrev Inv-loop : tie.InvT-loop
-Inv-loop rows sliced n moves₀ i₀ moves i = (i ≤ n) × (moves ≡ movesBelow (take sliced rows) i ++ replicate (64 - i) noMoves)
+Inv-loop rows sliced n moves₀ i₀ moves i = (i ≤ n) × (moves ≡ movesBelow (take sliced rows) i ++ replicate (jobsMost - i) noMoves)
 
 abbrev μ-loop : tie.MeasureT-loop
 μ-loop rows sliced n moves₀ i₀ moves i = n - i
@@ -42,7 +43,7 @@ loop-again : tie.Need-loop-again Inv-loop μ-loop
 loop-again c =
     let a = c .before .before .before .args in
     let l = c .before .before .loop in
-    (omega arith, rw (c .moves-of .ensures, l .inv .1) (below-fill (take (a .sliced) (a .rows)) 64 (l .i) (omega arith)))
+    (omega arith, rw (c .moves-of .ensures, l .inv .1) (below-fill (take (a .sliced) (a .rows)) jobsMost (l .i) (omega arith)))
 
 returns : tie.Need-returns Inv-loop μ-loop
 returns c =

@@ -59,7 +59,8 @@ use Rattle.model.proofs.Kind as K
 use Rattle.model.proofs.Kind.Laws as K′
 use Rattle.model.proofs.Share as Sh
 use Rattle.model.proofs.Slice as Sl
-use Rattle.planner.specs.Promise.{Filled, Promised}
+use Rattle.planner.specs.Promise.{Promised}
+use Rattle.planner.specs.ByValue.{Filled}
 use Rattle.planner.specs.declared.Tables.{Tables as Filling}
 use Rattle.rows.proofs.Fields.{is-back}
 use Rattle.planner.proofs.Lent.{read, few-fits, lent}

@@ -6,15 +6,16 @@ use Prim.Native.Nat.{ℕ, _≤_}
 use native.Mathlib.Omega.{arith}
 use borrow.Author.Needs.{needs}
 use lib.ListN.{length}
+use Rattle.rows.proofs.Upto.{upto-length}
 use Rattle.model.specs.Columns.{sharesIn, jobsIn}
 use Rattle.model.specs.Limits.{jobsMost, slicesMost}
 use Rattle.model.specs.Refusal.{given}
-use Rattle.rows.proofs.Upto.{upto-length}
 use Rattle.split.specs.Shares.{sharesOf, saysOutcome, rowsOf}
 use Rattle.split.specs.declared.Outcome.{Outcome}
 use Rattle.planner.specs.Packing.{TableAsks}
-use Rattle.planner.proofs.Columned.{enough, put-same, columned-refused, columned-short, columned-plan}
-use Rattle.planner.proofs.Plans.{table-asks}
+use Rattle.planner.proofs.ColumnFronts.{put-same}
+use Rattle.planner.proofs.PlanColumns.{columns-enough, columned-refused, columned-short, columned-plan}
+use Rattle.planner.proofs.PlanLaws.{table-asks}
 use Rattle.planner.proofs.plan_columns.Statement.{statement}
 use Rattle.planner.proofs.plan_columns.Tie as tie
 
@@ -59,18 +60,18 @@ module _ (c : tie.After-known-told2) where
   asks : TableAsks (start .args .board .window) (sharesIn count ticks1 ticks2)
   asks = table-asks _ _ _ (upto-length _ _) is
 
-is-short-requires : tie.Need-is-short-requires
-is-short-requires c κs = search needs
+are-too-short-requires : tie.Need-are-too-short-requires
+are-too-short-requires c κs = search needs
 
 returns : tie.Need-returns
 returns c =
     let k = c .before .before in
-    columned-short _ _ _ _ _ _ (is k) (sym (c .before .is-short .ensures) ∙ c .if1 .taken)
+    columned-short _ _ _ _ _ _ (is k) (sym (c .before .are-too-short .ensures) ∙ c .if1 .taken)
 
 -- Where the columns are long enough too.
 room : (c : tie.Else1) → let a = start (c .before .before) .args in
     (jobsMost ≤ length (a .shares1 .now)) × (jobsMost ≤ length (a .shares2 .now)) × (slicesMost ≤ length (a .slices .now))
-room c = enough _ _ _ (sym (c .before .is-short .ensures) ∙ c .if1 .left)
+room c = columns-enough _ _ _ (sym (c .before .are-too-short .ensures) ∙ c .if1 .left)
 
 put-ticks-requires : tie.Need-put-ticks-requires
 put-ticks-requires c κs =
@@ -115,7 +116,7 @@ returns-3 c =
     let q = p .before .before .before .before in
     let e = q .before .before .before .before in
     let k = e .before .before in
-    columned-plan _ _ _ _ _ _ (count k) _ _ _ _ _ _ (fits1 k) (fits2 k) (is k) (sym (e .before .is-short .ensures) ∙ e .if1 .left)
+    columned-plan _ _ _ _ _ _ (count k) _ _ _ _ _ _ (fits1 k) (fits2 k) (is k) (sym (e .before .are-too-short .ensures) ∙ e .if1 .left)
     (q .put-ticks .ensures) (p .put-ticks2 .ensures) (t .table .ensures)
 
 pub plan-columns-spec : {M : Type 1} → statement M
@@ -125,7 +126,7 @@ plan-columns-spec =
     split-requires
     enum-known-outcome
     enum-known-outcome-2
-    is-short-requires
+    are-too-short-requires
     returns
     put-ticks-requires
     put-ticks-requires-2

@@ -1,8 +1,9 @@
--- `planner::plan_tables` meets its contract: its own columns are long enough for every set, so that only the tables can be too short. Assumes nothing.
+-- `planner::plan_tables` meets its contract: its own columns are long enough for every set, so that only the tables can be too short.
+-- Assumes nothing.
 use mathlib.Core.Path.{refl}
 use borrow.Author.Needs.{needs}
 use Rattle.rows.proofs.Upto.{upto-length}
-use Rattle.planner.proofs.Columned.{filled}
+use Rattle.planner.proofs.PlanTables.{tables-filled}
 use Rattle.planner.proofs.plan_tables.Statement.{statement}
 use Rattle.planner.proofs.plan_tables.Tie as tie
 
@@ -25,7 +26,7 @@ returns : tie.Need-returns
 returns c =
     let call = c .before .before .before .before in
     let a = call .before .before .before .before .before .before .args in
-    filled (a .board) (a .n) _ _ _ _ (a .share-rows) (a .slice-rows) (upto-length (a .n) _) refl refl refl _ _ _ _ _ (call .plan-columns .ensures) (c .fit .ensures)
+    tables-filled (a .board) (a .n) _ (a .share-rows) (a .slice-rows) _ _ _ (upto-length (a .n) _) refl refl refl _ _ _ _ _ (call .plan-columns .ensures) (c .fit .ensures)
 
 pub plan-tables-spec : {M : Type 1} → statement M
 plan-tables-spec =

@@ -7,7 +7,7 @@ use borrow.Author.Needs.{needs}
 use lib.ListN.{length, drop, length-set}
 use Rattle.rows.specs.Upto.{upto, at}
 use Rattle.rows.proofs.Upto.{fill}
-use Rattle.planner.proofs.Columned.{upto-take}
+use Rattle.planner.proofs.ColumnFronts.{upto-take}
 use Rattle.planner.proofs.put_ticks.Statement.{statement}
 use Rattle.planner.proofs.put_ticks.Tie as tie
 

@@ -1,12 +1,12 @@
--- `packing::pack` meets its contract. The invariant: the table as it is, with the pieces of the jobs that are left, becomes what all pieces make of it.
--- Assumes nothing.
+-- `packing::pack` meets its contract. The invariant: the table as it is, with the pieces of the jobs that are left, becomes what all pieces make
+-- of it. Assumes nothing.
 use mathlib.Core.Path.{_≡_, refl}
 use Prim.Native.Nat.{_-_, _≤_}
 use native.Mathlib.Omega.{arith}
 use borrow.Author.Needs.{needs}
 use lib.ListN.{length}
 use Rattle.planner.specs.Packing.{fillingOf}
-use Rattle.planner.proofs.Filling.{left, Passing, job-few, share-within, pass-asks, pass-on, pass-ends}
+use Rattle.planner.proofs.packing.Filling.{left, Passing, job-few, share-within, pass-asks, pass-on, pass-ends}
 use Rattle.planner.proofs.packing.pack.Statement.{statement}
 use Rattle.planner.proofs.packing.pack.Tie as tie
 

@@ -3,7 +3,7 @@ use mathlib.Core.Path.{ap}
 use borrow.Author.Needs.{needs}
 use Rattle.slices.specs.Table.{piecesOf}
 use Rattle.planner.specs.Packing.{Filling}
-use Rattle.planner.proofs.Filling.{asks-part, asks-rest, stands-rest}
+use Rattle.planner.proofs.packing.Filling.{asks-part, asks-rest, stands-rest}
 use Rattle.planner.proofs.packing.pack_kind.Statement.{statement}
 use Rattle.planner.proofs.packing.pack_kind.Tie as tie
 

@@ -3,7 +3,7 @@ use mathlib.Core.Path.{refl, sym, _∙_}
 use native.Mathlib.Omega.{arith}
 use borrow.Author.Needs.{needs}
 use Rattle.planner.specs.Packing.{fillingOf}
-use Rattle.planner.proofs.Filling.{job-in, job-out}
+use Rattle.planner.proofs.packing.Filling.{job-in, job-out}
 use Rattle.planner.proofs.packing.put_job.Statement.{statement}
 use Rattle.planner.proofs.packing.put_job.Tie as tie
 

@@ -1,4 +1,5 @@
--- `packing::put_run` meets its contract: a run that reaches the edge of its core at most is one slice, and one that goes past it two. Assumes nothing.
+-- `packing::put_run` meets its contract: a run that reaches the edge of its core at most is one slice, and one that goes past it two.
+-- Assumes nothing.
 use mathlib.Core.Path.{_≡_, refl}
 use Prim.Native.Nat.{_+_, _*_, _≤_, _<_}
 use native.Mathlib.Nat.{add-mul}
@@ -7,7 +8,7 @@ use borrow.Author.Needs.{needs}
 use lib.ListN.{length-set}
 use Rattle.model.specs.Limits.{coresMost, slicesMost}
 use Rattle.planner.specs.Packing.{Asks}
-use Rattle.planner.proofs.Filling.{run, run-row, run-core, run-rows, run-one, run-two}
+use Rattle.planner.proofs.packing.Filling.{run, run-row, run-core, run-rows, run-one, run-two}
 use Rattle.planner.proofs.packing.put_run.Statement.{statement}
 use Rattle.planner.proofs.packing.put_run.Tie as tie
 

@@ -2,7 +2,7 @@
 use borrow.Author.Needs.{needs}
 use Rattle.model.specs.Columns.{sharesIn}
 use Rattle.planner.specs.Packing.{Sized}
-use Rattle.planner.proofs.Rows.{first-asks, second-asks, table-filled}
+use Rattle.planner.proofs.packing.TableFilled.{first-asks, second-asks, table-filled}
 use Rattle.planner.proofs.packing.table.Statement.{statement}
 use Rattle.planner.proofs.packing.table.Tie as tie
 

@@ -1,5 +1,9 @@
 -- The rows of a table that is filled: they are the slices of the definition, one behind the other, and the rest is as it was.
 -- One idea: to write one list of rows and then another behind it is to write both. Assumes nothing.
+--   kind           the table after a kind, from a row on
+--   first-asks     what is asked before the first kind
+--   second-asks    and before the second
+--   table-filled   both kinds give the table
 use mathlib.Core.Path.{_≡_, refl, sym, ap, _∙_}
 use mathlib.Core.List.{List, [], _∷_, _++_, map, map-append, append-assoc}
 use Prim.Native.Nat.{ℕ, suc, _+_, _*_, _≤_}

@@ -1,5 +1,15 @@
 -- A table that is being filled with the slices of pieces. One idea: what is done, with the pieces that are left, fills it as all pieces do,
 -- and more pieces only add rows and move the position on; so every step of the way has the room that the whole has. Assumes nothing.
+--   run                                     a table after one run, from where the code stands
+--   run-core, run-row, run-rows             the run has its core and its rows
+--   run-one, run-two                        it is one slice, or two
+--   after                                   a table after one job of a pass
+--   job-in, job-out                         the pass places the job, or not
+--   filled-append                           several pieces, and then several more
+--   asks-part, asks-rest, stands-rest       the first pieces have the room that all have, and the others fill what is left
+--   left, Passing                           what the jobs from i on give, and where the code stands at job i
+--   job-few, share-within                   a job of a pass has its number and its ticks within the limits
+--   pass-asks, pass-on, pass-ends           a pass goes on from job to job, and ends with the table of all
 use mathlib.Core.Path.{_≡_, refl, sym, _∙_}
 use mathlib.Core.Bool.{Bool, true, false, cond, and-comm}
 use mathlib.Core.List.{List, [], _∷_, _++_}

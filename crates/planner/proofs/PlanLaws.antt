@@ -1,7 +1,15 @@
--- The plan of a set: what is known of its shares lets them be placed, and a plan keeps demand 2. Assumes nothing.
---   accepted-fits   accepted shares fit the board, so that their table is a timetable
---   table-asks      what the code asks before it places them
---   plan-shares     a plan is made of the shares that are given, and plan-kept: it keeps demand 2
+-- The laws of plans: what an answer counts, what is known of the shares that are given, and that a plan made of them keeps demand 2.
+-- Assumes nothing.
+--   never             what follows where an answer would be two things at once: anything
+--   counts-are        the counts of an accepted plan are those of the definition's
+--   shares-lawful     shares are given of lawful sets alone
+--   shares-accepted   and they are accepted by the split's promise
+--   accepted-fits     accepted shares fit the board, so that their table is a timetable
+--   accepted-few      and they have at most n + 2·(m1 + m2) − 2 slices
+--   shares-fit        so the shares that are given fit
+--   table-asks        what the code asks before it places them
+--   plan-shares       a plan is made of the shares that are given, and of their table
+--   plan-kept         a plan keeps demand 2
 use mathlib.Core.Path.{_≡_, refl, sym, ap, _∙_}
 use mathlib.Core.Bool.{Bool, true, false, cond, _||_}
 use mathlib.Core.List.{List, [], _∷_}
@@ -10,30 +18,42 @@ use native.Mathlib.Nat.{mul-le-mul-right}
 use native.Mathlib.Omega.{arith}
 use lib.Dec.{ltb}
 use lib.ListN.{length}
-use Rattle.model.proofs.RoomLaws.{room-most}
-use Rattle.model.specs.Board.{roomOf}
 use Rattle.rows.specs.Lists.{All}
+use Rattle.model.specs.Board.{roomOf}
 use Rattle.model.specs.Refusal.{Answer, given, refused, andThen}
-use Rattle.model.specs.Split.{Ticks, AllDone}
+use Rattle.model.specs.Split.{Ticks, AllDone, ticksOf}
 use Rattle.model.specs.declared.Kind.{Kind}
 use Rattle.model.specs.declared.Kind.the-variants.{First, Second}
 use Rattle.model.specs.declared.Board.{Board}
 use Rattle.model.specs.declared.Job.{Job}
 use Rattle.model.specs.declared.Job.the-variants.{Both, OnlyFirst, OnlySecond}
+use Rattle.model.proofs.RoomLaws.{room-most}
 use Rattle.model.proofs.Splits.{all-done-length}
 use Rattle.legal.specs.Lawful.{Lawful}
 use Rattle.legal.specs.Legal.{legalOf}
 use Rattle.legal.proofs.Lawful.{legal-lawful}
+use Rattle.split.specs.Promise.{Accepted}
+use Rattle.split.specs.Shares.{splitOf, sharesOf}
+use Rattle.split.proofs.Demands.{demands}
 use Rattle.slices.specs.Fits.{Fits}
 use Rattle.slices.specs.Table.{tableOf}
 use Rattle.slices.proofs.Counts.{table-few}
 use Rattle.slices.proofs.Timetabled.{table-timetable}
-use Rattle.split.specs.Promise.{Accepted}
-use Rattle.split.specs.Shares.{splitOf, sharesOf}
-use Rattle.split.proofs.Demands.{demands}
 use Rattle.planner.specs.Packing.{TableAsks}
-use Rattle.planner.specs.Plan.{Plan, fitted, planOf}
+use Rattle.planner.specs.Plan.{Plan, Counts, planFrom, fitted, planOf, sharesGiven, slicesGiven, countsIn, saysPlanned}
 use Rattle.planner.specs.Promise.{GoodPlan}
+use Rattle.planner.specs.declared.Planned.the-variants.{Plan as Counted}
+
+-- ---- what an answer counts
+pub never : {A : Type 0} → _≡_ {A = ℕ} 0 1 → A
+never z = absurd (omega arith)
+
+pub counts-are : (jobs slices : ℕ) (x : Answer Plan) → saysPlanned (Counted jobs slices) ≡ countsIn x
+    → (jobs ≡ length (sharesGiven x)) × (slices ≡ length (slicesGiven x))
+counts-are jobs slices (given p) says =
+    let same : _≡_ {A = Counts} (record { jobs = jobs; slices = slices }) (record { jobs = length (p .shares); slices = length (p .slices) }) = cc in
+    (ap (λ (c : Counts). c .jobs) same, ap (λ (c : Counts). c .slices) same)
+counts-are jobs slices (refused number place) says = never (cc)
 
 -- ---- accepted shares
 abbrev Each : ℕ → List Ticks → Type 0
@@ -48,14 +68,13 @@ done-each w (OnlyFirst c1 ∷ js) (s ∷ ss) d = (omega arith, done-each w js ss
 done-each w (OnlySecond c2 ∷ js) (s ∷ ss) d = (omega arith, done-each w js ss (d .1))
 
 module _ (board : Board) (n : ℕ) (js : List Job) where
-  -- Shares are given of legal sets alone.
   pub shares-lawful : {ss : List Ticks} → sharesOf board n js ≡ given ss → Lawful board n js
   shares-lawful {ss} e = go (legalOf board n js) refl e
     where
       go : (x : Answer (Unit {0})) → legalOf board n js ≡ x
           → andThen x (λ _. splitOf (board .window) (roomOf board First) (roomOf board Second) js) ≡ given ss → Lawful board n js
       go (given _) legal e = legal-lawful board n js legal
-      go (refused number place) legal e = let z : _≡_ {A = ℕ} 0 1 = cc in absurd (omega arith)
+      go (refused number place) legal e = never (cc)
 
   pub shares-accepted : {ss : List Ticks} → sharesOf board n js ≡ given ss → Accepted board js ss
   shares-accepted e = rw e at (demands board n js)
@@ -70,7 +89,7 @@ module _ (board : Board) (n : ℕ) (js : List Job) where
           one-uneven = ok .one-uneven;
         }
       where
-        within : (k : Kind) → Rattle.model.specs.Split.ticksOf k ss ≤ roomOf board k
+        within : (k : Kind) → ticksOf k ss ≤ roomOf board k
         within First = ok .whole .within1
         within Second = ok .whole .within2
 
@@ -78,8 +97,8 @@ module _ (board : Board) (n : ℕ) (js : List Job) where
     accepted-few =
         omega (arith, table-few board ss accepted-fits (law .first-some) (law .second-some), all-done-length (board .window) 1 js ss (ok .whole .done))
 
-    kept : GoodPlan board js ss (tableOf (board .window) ss)
-    kept =
+    accepted-kept : GoodPlan board js ss (tableOf (board .window) ss)
+    accepted-kept =
         record {
           whole = ok .whole;
           timetable = table-timetable board ss accepted-fits;
@@ -88,7 +107,9 @@ module _ (board : Board) (n : ℕ) (js : List Job) where
           few = accepted-few;
         }
 
-  -- What the code asks before it places them.
+  pub shares-fit : {ss : List Ticks} → sharesOf board n js ≡ given ss → Fits board ss
+  shares-fit {ss} e = accepted-fits ss (shares-lawful e) (shares-accepted e)
+
   pub table-asks : {ss : List Ticks} → length js ≡ n → sharesOf board n js ≡ given ss → TableAsks (board .window) ss
   table-asks {ss} size e =
       let law = shares-lawful e in
@@ -104,7 +125,6 @@ module _ (board : Board) (n : ℕ) (js : List Job) where
       }
 
   module _ (m k : ℕ) where
-    -- A plan is made of the shares that are given.
     pub plan-shares : {p : Plan} → planOf board n js m k ≡ given p
         → (sharesOf board n js ≡ given (p .shares)) × (p .slices ≡ tableOf (board .window) (p .shares))
     plan-shares {p} e = go (sharesOf board n js) refl e
@@ -113,18 +133,18 @@ module _ (board : Board) (n : ℕ) (js : List Job) where
         Made = (sharesOf board n js ≡ given (p .shares)) × (p .slices ≡ tableOf (board .window) (p .shares))
 
         one : (ss : List Ticks) → sharesOf board n js ≡ given ss → (t : Bool)
-            → cond t (refused 7 0) (given (record { shares = ss; slices = tableOf (board .window) ss })) ≡ given p → Made
-        one ss is true e = let z : _≡_ {A = ℕ} 0 1 = cc in absurd (omega arith)
+            → cond t (refused 7 0) (given (planFrom board ss)) ≡ given p → Made
+        one ss is true e = never (cc)
         one ss is false e =
-            let same : _≡_ {A = Plan} (record { shares = ss; slices = tableOf (board .window) ss }) p = cc in
+            let same : _≡_ {A = Plan} (planFrom board ss) p = cc in
             (is ∙ ap (λ (q : Plan). given (q .shares)) same, sym (ap (λ (q : Plan). q .slices) same) ∙ ap (λ (q : Plan). tableOf (board .window) (q .shares)) same)
 
         go : (x : Answer (List Ticks)) → sharesOf board n js ≡ x
-            → andThen x (λ (ss : List Ticks). fitted m k (record { shares = ss; slices = tableOf (board .window) ss })) ≡ given p → Made
+            → andThen x (λ (ss : List Ticks). fitted m k (planFrom board ss)) ≡ given p → Made
         go (given ss) is e = one ss is (ltb m (length ss) || ltb k (length (tableOf (board .window) ss))) e
-        go (refused number place) is e = let z : _≡_ {A = ℕ} 0 1 = cc in absurd (omega arith)
+        go (refused number place) is e = never (cc)
 
     pub plan-kept : {p : Plan} → planOf board n js m k ≡ given p → GoodPlan board js (p .shares) (p .slices)
     plan-kept {p} e =
         let made = plan-shares e in
-        rw (made .1) (kept (p .shares) (shares-lawful (made .0)) (shares-accepted (made .0)))
+        rw (made .1) (accepted-kept (p .shares) (shares-lawful (made .0)) (shares-accepted (made .0)))
