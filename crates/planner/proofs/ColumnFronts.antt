@@ -15,7 +15,8 @@ use Rattle.rows.specs.Lists.{All}
 use Rattle.rows.proofs.Upto.{upto-length, upto-map}
 use Rattle.model.specs.Board.{on}
 use Rattle.model.specs.Columns.{sharesIn}
-use Rattle.model.specs.Packed.{packOf, sliceIn, slicesIn, Narrow}
+use Rattle.model.specs.Packed.{packOf, sliceIn, slicesIn}
+use Rattle.model.specs.Terms.{Narrow}
 use Rattle.model.specs.Split.{Ticks, share, ticksOn}
 use Rattle.model.specs.declared.Kind.{Kind}
 use Rattle.model.specs.declared.Kind.the-variants.{First, Second}

@@ -14,7 +14,8 @@ use Rattle.rows.specs.Lists.{All, front}
 use Rattle.rows.proofs.Lists.{all-map}
 use Rattle.model.specs.Board.{coresOf}
 use Rattle.model.specs.Limits.{coresMost, jobsMost, slicesMost}
-use Rattle.model.specs.Packed.{packOf, Narrow}
+use Rattle.model.specs.Packed.{packOf}
+use Rattle.model.specs.Terms.{Narrow}
 use Rattle.model.specs.Refusal.{Answer, given, refused, saysRefusal, andThen}
 use Rattle.model.specs.Split.{Ticks, ticksOn}
 use Rattle.model.specs.Timetable.{Inside}
