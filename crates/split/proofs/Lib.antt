@@ -2,8 +2,9 @@
 -- the laws that these need. share_out, split and split_legal are the functions of lib.rt.
 -- What every call of `split` promises, in plain words, over its contract alone. Start here.
 mod Promises
--- The definitions of that promise by examples, exactly at each limit and wrong by one.
-mod BothSides
+-- The definitions of that promise by examples, exactly at each limit and wrong by one. `pub` modules are checked first: a slip in a definition
+-- is refused at an example that it makes false, before a proof objects.
+pub mod BothSides
 -- The worked sets with their answers, and why demand 3 has its slack.
 mod Examples
 -- The demands of the definitions: shares that are given are a split, and a refusal for room leaves none on the smaller board.

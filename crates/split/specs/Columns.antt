@@ -1,6 +1,7 @@
 -- Internal: no public promise cites this. The contracts of the private functions do.
 -- Columns of numbers, as the code lends them, and the rows and shares that they are.
 --   noRow      a row of zeros, which no job has: what a list of rows has past its end
+--   wordMost   the greatest number of 32 bits, which a row's ticks have
 --   sumMost    what the ticks of all rows come to at most
 --   Summed     two sums are the ticks of all rows here and there, and small
 --   Movable    what holds of a row that can be moved
@@ -57,9 +58,11 @@ use Rattle.split.specs.declared.Sums.{Sums}
 abbrev pub noRow : Row
 noRow = record { near = 0; far = 0; here = 0; there = 0; movable = false }
 
--- A row's ticks have 32 bits.
+abbrev pub wordMost : ℕ
+wordMost = 4294967295
+
 abbrev pub sumMost : ℕ
-sumMost = jobsMost * 4294967295
+sumMost = jobsMost * wordMost
 
 pub record Summed (rs : List Row) (r : Sums) : Type 0 where
   pub here : r .here ≡ hereSum rs
@@ -136,7 +139,7 @@ pub record Advanced (w room : ℕ) (sums : Sums) (far i : ℕ) (near here there 
   pub set-there : there' ≡ set there i (goneTo w room (sums .here) (at near i) far .there)
   pub sum-here : r .here + at near i ≡ sums .here + goneTo w room (sums .here) (at near i) far .here
   pub sum-there : r .there ≡ sums .there + goneTo w room (sums .here) (at near i) far .there
-  pub small : goneTo w room (sums .here) (at near i) far .there ≤ 4294967295
+  pub small : goneTo w room (sums .here) (at near i) far .there ≤ wordMost
 
 -- ---- the steps
 pub record Stepped (n w room : ℕ) (near far here there near' here' there' : List ℕ) (r : Sums) : Type 0 where

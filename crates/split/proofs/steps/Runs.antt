@@ -12,7 +12,7 @@ use Rattle.rows.specs.Lists.{sumOf}
 use Rattle.rows.proofs.Upto.{upto-length, upto-at, upto-set}
 use Rattle.split.specs.Home.{bothRow}
 use Rattle.split.specs.Steps.{hereSum, thereSum, nextOf, movedOf, stepsOf}
-use Rattle.split.specs.Columns.{rowAt, rowsIn, bare, Found, Advanced, Stepped, sumMost, noRow, Movable, Ready, Asks, rowIn, bestOf}
+use Rattle.split.specs.Columns.{wordMost, rowAt, rowsIn, bare, Found, Advanced, Stepped, sumMost, noRow, Movable, Ready, Asks, rowIn, bestOf}
 use Rattle.split.specs.Rows.{Row, Next, Nobody, At}
 use Rattle.split.specs.declared.steps.Best.{Best}
 use Rattle.split.specs.declared.Sums.{Sums}
@@ -46,7 +46,7 @@ pub record Runs (n w room : ℕ) (near₀ far here₀ there₀ near here there :
   pub sum-here : sums .here ≡ hereSum (rowsIn n near far here there)
   pub sum-there : sums .there ≡ thereSum (rowsIn n near far here there)
   pub small-here : sums .here ≤ sumMost
-  pub small-there : sums .there + left * 4294967295 ≤ 2 * sumMost
+  pub small-there : sums .there + left * wordMost ≤ 2 * sumMost
   pub alike : Alike (stepsOf left w room (rowsIn n near far here there)) (stepsOf n w room (rowsIn n near₀ far here₀ there₀))
 
 module _ {n w room : ℕ} {near₀ far here₀ there₀ near here there : List ℕ} {sums : Sums} {left : ℕ}

@@ -5,7 +5,7 @@ use native.Mathlib.Omega.{arith}
 use borrow.Author.Needs.{needs}
 use lib.ListN.{length, length-set}
 use Rattle.model.specs.Limits.{windowMost}
-use Rattle.split.specs.Columns.{GoneHome}
+use Rattle.split.specs.Columns.{wordMost, GoneHome}
 use Rattle.split.proofs.home.Homes.{homes-fit}
 use Rattle.split.proofs.home.go_home.Statement.{statement}
 use Rattle.split.proofs.home.go_home.Tie as tie
@@ -13,7 +13,7 @@ use Rattle.split.proofs.home.GoingHome.{home-more}
 
 abbrev Inv-loop : tie.InvT-loop
 Inv-loop c1 c2 n s1₀ s2₀ here₀ there₀ i₀ s1 s2 here there i =
-    (i ≤ n) × (length s1 ≡ length s1₀) × (length s2 ≡ length s2₀) × (here ≤ i * 4294967295) × (there ≤ i * 4294967295) ×
+    (i ≤ n) × (length s1 ≡ length s1₀) × (length s2 ≡ length s2₀) × (here ≤ i * wordMost) × (there ≤ i * wordMost) ×
     GoneHome i c1 c2 s1₀ s2₀ s1 s2 (record { here = here; there = there })
 
 abbrev μ-loop : tie.MeasureT-loop

@@ -5,7 +5,7 @@ use native.Mathlib.Omega.{arith}
 use borrow.Author.Needs.{needs}
 use Rattle.model.specs.Columns.{jobsIn}
 use Rattle.model.specs.declared.Kind.the-variants.{First}
-use Rattle.split.specs.Columns.{Summed}
+use Rattle.split.specs.Columns.{wordMost, Summed}
 use Rattle.split.specs.Shares.{homeRows}
 use Rattle.split.proofs.home.home_ticks.Statement.{statement}
 use Rattle.split.proofs.home.home_ticks.Tie as tie
@@ -13,7 +13,7 @@ use Rattle.split.proofs.home.GoingHome.{sums-more}
 
 abbrev Inv-loop : tie.InvT-loop
 Inv-loop c1 c2 n here₀ there₀ i₀ here there i =
-    (i ≤ n) × (here ≤ i * 4294967295) × (there ≤ i * 4294967295) × Summed (homeRows First (jobsIn i c1 c2)) (record { here = here; there = there })
+    (i ≤ n) × (here ≤ i * wordMost) × (there ≤ i * wordMost) × Summed (homeRows First (jobsIn i c1 c2)) (record { here = here; there = there })
 
 abbrev μ-loop : tie.MeasureT-loop
 μ-loop c1 c2 n here₀ there₀ i₀ here there i = n - i

@@ -1,4 +1,5 @@
--- `split::steps::next_of` meets its contract. The invariant: the one found so far is the best of the rows passed, whatever their ticks. Assumes nothing.
+-- `split::steps::next_of` meets its contract. The invariant: the one found so far is the best of the rows passed, whatever their ticks.
+-- Assumes nothing.
 use mathlib.Core.Path.{_≡_, refl, ap, _∙_}
 use mathlib.Core.List.{List}
 use Prim.Native.Nat.{ℕ, _-_, _≤_}
