@@ -1,24 +1,23 @@
--- The promises of this crate determine their results: the answer is taken back from what it says, and every row is told.
+-- The contracts of this crate determine their results: the answer is taken back from what it says, and every row is told.
 --   plan_columns ↦ columns-once, the answer with every number of each lent column after the call
 --   moves ↦ moves-once
 --   plan ↦ plan-once, the answer with both lent tables after the call
 -- Assumes nothing.
-use mathlib.Core.List.{List}
 use mathlib.Core.Path.{_≡_, refl, ap}
-use Prim.Native.Nat.{ℕ}
-use lib.ListN.{take}
+use borrow.Fn.Claims.{AllOf}
+use borrow.Fn.Read.{Read, no-know, all-models, r-last}
+use base.Logic.{emp}
+use contract.Lifetimes.{Lfts}
+use denote.Triple.Clauses.{AtExit}
+use denote.Triple.Entry.{Args}
 use Rattle.model.specs.Refusal.{Answer}
-use Rattle.model.specs.declared.Board.{Board}
-use Rattle.model.specs.declared.Job.{Job}
-use Rattle.model.specs.declared.Share.{Share}
-use Rattle.model.specs.declared.Slice.{Slice}
-use Rattle.model.proofs.Determined.{Once, said-once, refusal-back, answerOf}
-use Rattle.planner.specs.PlanMoves.{MovesPromised}
+use Rattle.model.proofs.Determined.{Determines, Once, said-once, refusal-back, answerOf}
 use Rattle.planner.specs.Plan.{Counts, saysPlanned}
-use Rattle.planner.specs.Promise.{Columned, Promised}
-use Rattle.planner.specs.declared.PlannedMoves.{PlannedMoves}
 use Rattle.planner.specs.declared.Planned.{Planned}
 use Rattle.planner.specs.declared.Planned.the-variants.{Plan, Refused}
+use Rattle.planner.proofs.plan
+use Rattle.planner.proofs.plan_columns
+use Rattle.planner.proofs.moves
 
 abbrev plannedOf : Answer Counts → Planned
 plannedOf = answerOf (λ c. Plan (c .jobs) (c .slices)) Refused
@@ -30,25 +29,31 @@ planned-back (Refused r) = ap Refused (refusal-back r)
 planned-once : (counts : Answer Counts) → Once (λ (r : Planned). saysPlanned r ≡ counts)
 planned-once = said-once saysPlanned plannedOf planned-back
 
-pub columns-once : (board : Board) (n : ℕ) (js : List Job) (s1 s2 rows : List ℕ)
-    → Once (λ (r : Planned × List ℕ × List ℕ × List ℕ). Columned board n js s1 s2 rows (r .0) (r .1) (r .2) (r .3))
-columns-once board n js s1 s2 rows r s p q =
+pub columns-once : Determines plan_columns.ended plan_columns.Reads.Learnt
+columns-once κs args r s p q =
     let answer : r .0 ≡ s .0 = planned-once _ (r .0) (s .0) (p .says) (q .says) in
-    let first : r .1 ≡ s .1 = cc in
-    let second : r .2 ≡ s .2 = cc in
-    let slices : r .3 ≡ s .3 = cc in
-    λ i. (answer i, first i, second i, slices i)
+    let first : r .1 .1 .1 .1 .1 .0 ≡ s .1 .1 .1 .1 .1 .0 = cc in
+    let second : r .1 .1 .1 .1 .1 .1 .0 ≡ s .1 .1 .1 .1 .1 .1 .0 = cc in
+    let slices : r .1 .1 .1 .1 .1 .1 .1 .0 ≡ s .1 .1 .1 .1 .1 .1 .1 .0 = cc in
+    λ i. (answer i, (tt, (tt, (tt, (tt, (first i, (second i, (slices i, tt))))))))
 
-pub moves-once : (board : Board) (jobs : List Job) (n : ℕ) → Once (λ (r : PlannedMoves). MovesPromised board n (take n jobs) r)
-moves-once board jobs n r s p q =
-    let planned : r .planned ≡ s .planned = planned-once _ (r .planned) (s .planned) (p .says) (q .says) in
-    let moves : r .moves ≡ s .moves = cc in
-    λ i. record { planned = planned i; moves = moves i }
+pub moves-once : Determines moves.ended moves.Reads.Learnt
+moves-once κs args r s p q =
+    let planned : r .0 .planned ≡ s .0 .planned = planned-once _ (r .0 .planned) (s .0 .planned) (p .says) (q .says) in
+    let moves : r .0 .moves ≡ s .0 .moves = cc in
+    λ i. (record { planned = planned i; moves = moves i }, r .1)
 
-pub plan-once : (board : Board) (js : List Job) (ss : List Share) (ls : List Slice)
-    → Once (λ (r : Planned × List Share × List Slice). Promised board js ss ls (r .0) (r .1) (r .2))
-plan-once board js ss ls r s p q =
+-- A function that takes slices of records has no generated reading. This one is made as those are, of the contract's own clause.
+module _ (κs : Lfts 3) (args : Args plan.signature κs) (r : Planned) (last : AtExit plan.ended κs) where
+  abbrev plan-read : Read (λ w. emp (w .𝓤)) no-know (λ w. plan.clauses (w .𝓤) (w .H) (w .𝓖 .A) (w .𝓜 .mem) (w .𝓡 .run) κs args .ensures tt r last)
+  plan-read = all-models _ (λ w. r-last _) (λ w. refl) (λ w. refl) (λ w. refl)
+
+  abbrev planLearnt : Type 0
+  planLearnt = AllOf (plan-read .tells)
+
+pub plan-once : Determines plan.ended planLearnt
+plan-once κs args r s p q =
     let answer : r .0 ≡ s .0 = planned-once _ (r .0) (s .0) (p .answer) (q .answer) in
-    let shares : r .1 ≡ s .1 = cc in
-    let slices : r .2 ≡ s .2 = cc in
-    λ i. (answer i, shares i, slices i)
+    let shares : r .1 .1 .1 .0 ≡ s .1 .1 .1 .0 = cc in
+    let slices : r .1 .1 .1 .1 .0 ≡ s .1 .1 .1 .1 .0 = cc in
+    λ i. (answer i, (tt, (tt, (shares i, (slices i, tt)))))

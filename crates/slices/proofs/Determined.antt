@@ -1,12 +1,7 @@
--- The promise of this crate determines its result, by an equation: moves_of ↦ moves-of-once. Assumes nothing.
-use mathlib.Core.List.{List}
-use mathlib.Core.Path.{_≡_}
-use Prim.Native.Nat.{ℕ}
-use lib.ListN.{take}
-use Rattle.model.specs.declared.Slice.{Slice}
-use Rattle.model.proofs.Determined.{Once, once}
-use Rattle.slices.specs.Moves.{movesOf}
-use Rattle.slices.specs.declared.Moves.{Moves}
+-- The contract of this crate's function determines its result, by an equation: moves_of ↦ moves-of-once. Assumes nothing.
+use mathlib.Core.Path.{sym, _∙_}
+use Rattle.model.proofs.Determined.{Determines}
+use Rattle.slices.proofs.moves_of
 
-pub moves-of-once : (rows : List Slice) (n job : ℕ) → Once (λ (r : Moves). r ≡ movesOf (take n rows) job)
-moves-of-once rows n job = once (movesOf (take n rows) job) (λ r e. e)
+pub moves-of-once : Determines moves_of.ended moves_of.Reads.Learnt
+moves-of-once κs args r s p q i = ((p ∙ sym q) i, r .1)

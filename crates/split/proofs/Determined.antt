@@ -1,5 +1,5 @@
--- The promises of this crate determine their results: each is taken back from what it says.
---   split ↦ split-once, of columns of 64 rows, as all of the type are
+-- The contracts of this crate determine their results: each is taken back from what it says.
+--   split ↦ split-once
 --   starting_balance ↦ starting-balance-once
 -- Assumes nothing.
 use mathlib.Core.List.{List, [], _∷_, _++_}
@@ -7,6 +7,7 @@ use mathlib.Core.Path.{_≡_, refl, sym, ap, _∙_}
 use Prim.Native.Nat.{ℕ, zero, suc, _-_, _≤_}
 use native.Mathlib.Nat.{le-of-suc-le-suc}
 use native.Mathlib.Omega.{arith}
+use borrow.Author.Needs.{needs}
 use lib.ListN.{length, take, drop, replicate}
 use Rattle.rows.specs.Upto.{upto, at}
 use Rattle.rows.proofs.Upto.{upto-length, upto-map}
@@ -20,9 +21,9 @@ use Rattle.model.specs.declared.Board.{Board}
 use Rattle.model.specs.declared.Job.{Job}
 use Rattle.model.specs.declared.Kind.{Kind}
 use Rattle.model.specs.declared.Kind.the-variants.{First, Second}
-use Rattle.model.proofs.Determined.{Once, once, said-once, refusal-back, answerOf, rows-back}
+use Rattle.model.proofs.Determined.{Determines, Once, once, said-once, refusal-back, answerOf, rows-back}
 use Rattle.split.specs.Promise.{Promised}
-use Rattle.split.specs.Shares.{sharesOf, balanceOf, saysOutcome, rowsOf, saysBalanced}
+use Rattle.split.specs.Shares.{sharesOf, saysOutcome, rowsOf, saysBalanced}
 use Rattle.split.specs.Columns.{none}
 use Rattle.split.specs.declared.balance.Balance.{Balance}
 use Rattle.split.specs.declared.balance.Balanced.{Balanced}
@@ -30,6 +31,8 @@ use Rattle.split.specs.declared.balance.Balanced.the-variants.{Given, Re
 use Rattle.split.specs.declared.Outcome.{Outcome}
 use Rattle.split.specs.declared.Outcome.the-variants.{Shares, Refused}
 use Rattle.split.specs.declared.Shared.{Shared}
+use Rattle.split.proofs.split
+use Rattle.split.proofs.balance.starting_balance
 
 -- As many shares as are given, in columns with zeros behind them.
 abbrev sharedOf : Answer (List Ticks) → Shared
@@ -62,11 +65,16 @@ shared-back (Shares n) s1 s2 full1 full2 few rest1 rest2 =
     rw (column-back n s1 s2 First full1 few rest1, column-back n s1 s2 Second full2 few rest2, size n s1 s2)
 shared-back (Refused r) s1 s2 full1 full2 few rest1 rest2 = rw (refusal-back r, rest1, rest2)
 
-pub split-once : (board : Board) (n : ℕ) (js : List Job)
+shared-once : (board : Board) (n : ℕ) (js : List Job)
     → Once (λ (r : Shared). (length (r .first) ≡ jobsMost) × (length (r .second) ≡ jobsMost) × Promised board n js r)
-split-once board n js =
+shared-once board n js =
     once (sharedOf (sharesOf board n js))
     (λ r p. let a = p .2 .answers in sym (shared-back (r .outcome) (r .first) (r .second) (p .0) (p .1) (a .few) (a .rest1) (a .rest2)) ∙ ap sharedOf (a .says))
+
+-- Beside the contract a caller is told what the result's type says: here, that each column has its rows.
+pub split-once : Determines split.ended (λ κs args r last. split.Kinds.r .is .Ok κs r × split.Reads.Learnt κs args r last)
+split-once κs args r s p q i =
+    (shared-once _ _ _ (r .0) (s .0) (search (needs, p .0), search (needs, p .0), p .1) (search (needs, q .0), search (needs, q .0), q .1) i, r .1)
 
 abbrev balancedOf : Answer Balance → Balanced
 balancedOf = answerOf Given NoBalance
@@ -75,5 +83,5 @@ balanced-back : (r : Balanced) → balancedOf (saysBalanced r) ≡ r
 balanced-back (Given b) = refl
 balanced-back (NoBalance r) = ap NoBalance (refusal-back r)
 
-pub starting-balance-once : (board : Board) (jobs : List Job) (n : ℕ) → Once (λ (r : Balanced). saysBalanced r ≡ balanceOf board n (take n jobs))
-starting-balance-once board jobs n = said-once saysBalanced balancedOf balanced-back (balanceOf board n (take n jobs))
+pub starting-balance-once : Determines starting_balance.ended starting_balance.Reads.Learnt
+starting-balance-once κs args r s p q i = (said-once saysBalanced balancedOf balanced-back _ (r .0) (s .0) p q i, r .1)
