@@ -90,7 +90,7 @@ answers '4,096 bytes' $'1f0901\n' digits 4096
 answers '4,097 bytes' $'1f0800\n' digits 4097
 answers '100,000 bytes' $'1f0800\n' digits 100000
 
-# The longest answer: 64 jobs on 8 and 8 cores with 94 slices (planner/specs/Most.antt has the same set).
+# The longest answer: 64 jobs on 8 and 8 cores with 94 slices (planner/proofs/Examples.antt has the same set).
 longest() {
     printf '01%04x0808\n' 1000
     { times 15 '800 1338 ' && echo 400 900; } | xargs printf '0200%08x%08x\n'
