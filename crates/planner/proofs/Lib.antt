@@ -1,5 +1,3 @@
-pub mod Counted
-pub mod Slot
 pub mod Filling
 pub mod Rows
 pub mod Plans

@@ -1,4 +1,4 @@
--- `facts::plan_lent` meets its contract: a walk of its MIR, by hand, with one call and no branch. Each array's first rows are lent for a lifetime that is made for the call, and come back after it (`Lending.antt`). Of the contract of `planner::plan` it uses nothing but that the tables come back, so that it stands whatever `plan` promises.
+-- `facts::plan_lent` meets its contract: a walk of its MIR, by hand, with one call and no branch. Each array's first rows are lent for a lifetime that is made for the call, and come back after it (`rows`, `Lent/Loan.antt`). Of the contract of `planner::plan` it uses nothing but that the tables come back, so that it stands whatever `plan` promises.
 -- Of the jobs' lifetime, place and so on the names have no mark, of the share table's they have ₁, and of the slice table's ₂.
 -- Positions: local i of the 20 stands at 2·(19 − i) with its right to be freed right after it, then come the tokens and what the parameters own. The comments say what stands before _19, and where each local then is.
 -- Assumes nothing.
@@ -66,7 +66,7 @@ use Rattle.planner.proofs.plan.Symbol as g-def
 use Rattle.planner.proofs.plan.Symbol.{name as #g}
 use Rattle.planner.proofs.plan.Met as g-thm
 use Rattle.facts.specs.declared.Lent.{Lent}
-use Rattle.facts.proofs.Lending.{holds, lent-as, as-val, LentTable, LentRows, lends, back, lends-shared, back-shared}
+use Rattle.rows.proofs.Lent.Loan.{holds, lent-as, as-val, LentTable, LentRows, lends, back, lends-shared, back-shared}
 use Rattle.facts.proofs.Lent as P
 use Rattle.facts.proofs.Lent.Laws as P′
 use Rattle.facts.proofs.plan_lent.Key.{name as #key}

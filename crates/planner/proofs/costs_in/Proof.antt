@@ -1,4 +1,4 @@
--- `planner::costs_in` meets its contract: a walk of its MIR, by hand, with a loop and a call in it. The slice is looked into once, before the loop, and the look is shut after it; the column's slot is taken apart before the loop, and put together after it (`Slot.antt`).
+-- `planner::costs_in` meets its contract: a walk of its MIR, by hand, with a loop and a call in it. The slice is looked into once, before the loop, and the look is shut after it; the column's slot is taken apart before the loop, and put together after it (`rows`, `Lent/Slot.antt`).
 -- The invariant: the first i numbers of the column are the costs of the slice's jobs, and the others 0. `Kind` and `Job` are enums, so their laws are `denote.Enum.Laws`'.
 -- Positions: local i of the 13 stands at 2·(12 − i) with its right to be freed right after it, then come the token and what the parameters own; `At` and the comments say where each stands later.
 -- Assumes nothing.
@@ -62,8 +62,8 @@ use Rattle.model.proofs.cost as cost
 use Rattle.model.proofs.cost.Symbol as cost-def
 use Rattle.model.proofs.cost.Symbol.{name as #cost}
 use Rattle.model.proofs.cost.Met as cost-thm
-use Rattle.planner.proofs.Counted.{Upto, Nearer, nearer-wf}
-use Rattle.planner.proofs.Slot as slot
+use Rattle.rows.proofs.Lent.Count.{Upto, Nearer, nearer-wf}
+use Rattle.rows.proofs.Lent.Slot as slot
 use Rattle.planner.proofs.costs_in.Key.{name as #key}
 use Rattle.planner.proofs.costs_in as f
 use Rattle.planner.proofs.costs_in.Statement as stated

@@ -1,5 +1,5 @@
--- `planner::put_slices` meets its contract: a walk of its MIR, by hand, with a loop and a call in it. The table's borrow is opened before the loop and closed after it, and the column's slot is taken apart and put together (`Slot.antt`).
--- The invariant: the first i rows of the table are made of the column, and the others as they were (`Counted.antt`).
+-- `planner::put_slices` meets its contract: a walk of its MIR, by hand, with a loop and a call in it. The table's borrow is opened before the loop and closed after it, and the column's slot is taken apart and put together (`rows`, `Lent/Slot.antt`).
+-- The invariant: the first i rows of the table are made of the column, and the others as they were (`rows`, `Lent/Count.antt`).
 -- Positions: local i of the 14 stands at 2·(13 − i), with its right to be freed right after it, then come the token and what the parameters own; `At` and the comments say where each stands later.
 -- Assumes nothing.
 use mathlib.Core.Path.{_≡_, refl, sym, ap, subst}
@@ -59,8 +59,8 @@ use Rattle.model.proofs.slice_in as mk
 use Rattle.model.proofs.slice_in.Symbol as mk-def
 use Rattle.model.proofs.slice_in.Symbol.{name as #mk}
 use Rattle.model.proofs.slice_in.Met as mk-thm
-use Rattle.planner.proofs.Counted.{Upto, Nearer, nearer-wf, made, made-length, made-next}
-use Rattle.planner.proofs.Slot as slot
+use Rattle.rows.proofs.Lent.Count.{Upto, Nearer, nearer-wf, made, made-length, made-next}
+use Rattle.rows.proofs.Lent.Slot as slot
 use Rattle.planner.proofs.put_slices.Key.{name as #key}
 use Rattle.planner.proofs.put_slices as f
 use Rattle.planner.proofs.put_slices.Statement as stated
