@@ -7,3 +7,9 @@ pub mod Slot
 
 -- the first rows of such an array, lent for a call, and the array after it
 pub mod Loan
+
+-- a walk whose context keeps every entry at its place, so that local k stands at k
+pub mod Places
+
+-- what a loop over a lent table does in a turn, each as a rule at a few of those places
+pub mod Steps
