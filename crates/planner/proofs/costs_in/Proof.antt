@@ -6,7 +6,6 @@ use mathlib.Core.Path.{_≡_, refl, ap, _∙_}
 use mathlib.Core.List.{[], _∷_, _++_, List, map}
 use Prim.Native.Nat.{ℕ, _<_, _≤_, _*_, _+_, _-_, _^_}
 use native.Mathlib.Omega.{arith}
-use native.Mathlib.Numerals.{add-one-dec}
 use lib.Dec.{lit<}
 use lib.ListN.{length, take, drop, getD, set, replicate, length-append, length-map, length-replicate}
 use lib.Seq.{length-take-le}
@@ -18,12 +17,12 @@ use base.Logic.{SProp, ent, emp, id⊢, exE, snd∗}
 use base.Fml.{Lft, Share, GName, fat, froom, flft, fres, fobor, fshr-bor, ftrue}
 use prog.Memory.{Memory}
 use prog.Routine.{Routine}
-use prog.Wp.{Heap, Env, afterTurn, WpFn, Tables}
+use prog.Wp.{Heap, Env, WpFn, Tables}
 use ghost.Atoms.{Atoms, sem}
 use contract.Monad.{Fun, fact}
 use contract.Running.{givenOf, tables, tablesOf}
 use types.Kit.{Given, Item, ‵, _⊛_, ⋆, runs, atRet, Sq, _$_, _∵_, !, qed, by, move, keep, drop as drops, split, join, rewrite, fsplit, fjoin, suffices, frame, done}
-use types.Run.{look, init, forget, stop, from, load, lit, and-then, no-more, of-opd, assigns, land, returns, enter, params1, pass1, pass0, exec, again}
+use types.Run.{look, init, forget, stop, from, load, lit, and-then, no-more, of-opd, assigns, land, returns, enter, params1, pass1, pass0}
 use types.Part.{rep}
 use types.Share.{arr-parts}
 use sound.WpLaws.{fmOf, WpFn-mono}
@@ -47,7 +46,7 @@ use denote.Triple.Walked.{says, needs, Stays, stay-none-slice, stay-none, walkOf
 use denote.Exit.{yes}
 use denote.Signature.{plain}
 use Rattle.rows.proofs.Walk.{fill-one}
-use Rattle.rows.proofs.Lent.Count.{Upto, Nearer, Turn, counts-up}
+use Rattle.rows.proofs.Lent.Count.{Upto, Turn, counts-up, nears, rests}
 use Rattle.rows.proofs.Lent.Slot as slot
 use Rattle.rows.proofs.Lent.Places.{learns, within, rooms, rights, locals, frees-all}
 use Rattle.rows.proofs.Lent.Steps.{word, Element, number, enum, goes-on, leaves, points-slot, points-slice, loads, stores, counts, calls, opens-slot, shuts-slot, shuts-rows}
@@ -186,7 +185,6 @@ module _ {M : Type 1} (𝓤 : URA M) (H : Heap 𝓤) (A : Atoms 𝓤) (W : Given
 
       -- a turn that writes a cost: the slice's job is loaded, and its cost on the kind is stored to the column
       more : (i : Upto n) → i .0 < n → Turns i
-      unfolding afterTurn
       more i less =
           let fits : i .0 * 12 < 2 ^ 64 = omega (arith, room .1) in
           let fits′ : i .0 * 4 < 2 ^ 64 = omega arith in
@@ -200,13 +198,12 @@ module _ {M : Type 1} (𝓤 : URA M) (H : Heap 𝓤) (A : Atoms 𝓤) (W : Given
           within ! (4 ∷ 12 ∷ 6 ∷ []) (stores ! costs refl refl (mixed (i .0)) (i .0) (costOn kind (job-at (i .0))) l₄ 0 in-mixed cost-is) $
           rewrite ! 4 (λ (l : List ℕ). ‵ (row u32 fullShare l l₄ 0)) (mixed-next (i .0) less) refl $
           within ! (5 ∷ []) (counts ! refl (omega arith)) $ forget ! 10 refl $
-          again ! (Nearer n) At i (i .0 + 1, omega arith) (add-one-dec n (i .0) less)))
+          nears ! 𝓣 En code-mir.t-4 Post n At i less))
 
       -- the turn that leaves the loop, and the rest of the body: the column is copied whole
       ends : (i : Upto n) → i .0 ≡ n → Turns i
-      unfolding afterTurn
       ends i all =
-          within ! (5 ∷ 3 ∷ 7 ∷ []) (leaves ! refl refl refl (omega arith)) $ exec ! (𝓣 .C) (𝓣 .Λ) En code-mir.t-4 (atRet En Post) $
+          within ! (5 ∷ 3 ∷ 7 ∷ []) (leaves ! refl refl refl (omega arith)) $ rests ! 𝓣 En code-mir.t-4 Post n At i $
           learns ! (4 ∷ []) (shuts-slot ! costs most (mixed (i .0)) l₄ (mixed-length (i .0) (i .1))) (λ is.
           assigns ! (of-opd ! (load ! (from ! (stop !)) (look ! 4 refl))) (from ! (stop !)) (init ! 0 refl (array-typed u32 (uint-lawful 𝓤 H A W w32 .typed) most (mixed (i .0)) _ is .0)) $
           within ! (14 ∷ 15 ∷ []) (shuts-rows ! tt R q′ js b o) $
