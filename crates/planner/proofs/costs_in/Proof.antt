@@ -193,7 +193,7 @@ module _ {M : Type 1} (𝓤 : URA M) (H : Heap 𝓤) (A : Atoms 𝓤) (W : Given
           within ! (5 ∷ 2 ∷ 8 ∷ 9 ∷ []) (points-slice ! refl refl refl refl tt fits) $
           learns ! (14 ∷ 9 ∷ 10 ∷ []) (loads ! jobs refl refl q′ js (i .0) no-job b o (omega arith)) (λ is.
           calls ! (fmOf 𝓤 H (W .laws) 𝓣) (Cost 𝓤 H A mem run) known (to-cost (job-at (i .0))) (goes-cost (job-at (i .0)) is) costs (costOn kind (job-at (i .0))) (λ v. id⊢ 𝓤 _) (cost-of (job-at (i .0))) (and-then ! (load ! (from ! (stop !)) (look ! 2 refl)) (and-then ! (load ! (from ! (stop !)) (look ! 11 refl)) (no-more !))) (λ cost-is.
-          land ! (from ! (stop !)) (init ! 6 refl (costs .typed (costOn kind (job-at (i .0))) cost-is)) $
+          land ! (from ! (stop !)) (init ! 6 refl (costs .typed (costOn kind (job-at (i .0))) _ cost-is)) $
           within ! (5 ∷ 8 ∷ 11 ∷ 12 ∷ []) (points-slot ! refl refl refl refl refl tt fits′) $
           within ! (4 ∷ 12 ∷ 6 ∷ []) (stores ! costs refl refl (mixed (i .0)) (i .0) (costOn kind (job-at (i .0))) l₄ 0 in-mixed cost-is) $
           rewrite ! 4 (λ (l : List ℕ). ‵ (row u32 fullShare l l₄ 0)) (mixed-next (i .0) less) refl $
