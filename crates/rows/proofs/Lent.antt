@@ -8,6 +8,9 @@ pub mod Slot
 -- the first rows of such an array, lent for a call, and the array after it
 pub mod Loan
 
+-- the names of the logic that a walk by hand cites
+pub mod Logic
+
 -- a walk whose context keeps every entry at its place, so that local k stands at k
 pub mod Places
 
