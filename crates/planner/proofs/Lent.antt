@@ -1,7 +1,7 @@
 -- The promise of the planning call over lent tables, from what it knows of its callees. The walk of `plan` calls `lent` and looks at nothing
 -- else of the promise.
 --     read       the column of a kind that `costs_in` makes of the first jobs of a slice
---     few-fits   as many jobs as `at_most_a_set` gives fit a set, and are there
+--     few-fits   as many jobs as `rows::at_most` gives fit a set, and are there
 --     plan-read  the plan of what was read is the plan of the slice: all of it was read, or it has too many jobs to be looked at
 --     lent       the promise, of the plan by value of the costs that were read, whose rows were written to both tables
 -- Assumes nothing.

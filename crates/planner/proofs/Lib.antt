@@ -26,8 +26,3 @@ mod PlanTables
 pub mod Lent
 -- The promise of `moves`; and how many moves a plan has, a theorem that no promise needs.
 pub mod PlanMoves
---
--- What the walks by hand over lent rows of records share: a count that goes up, and the rows written so far.
-mod Counted
--- And the slot of a local array, taken apart and put together.
-pub mod Slot

@@ -6,7 +6,7 @@ mod packing;
 
 ghost use mathlib.Core.Path.{_≡_};
 ghost use mathlib.Core.List.{_++_, map};
-ghost use Prim.Native.Nat.{_-_, _≤_, min};
+ghost use Prim.Native.Nat.{_-_, _≤_};
 ghost use lib.ListN.{length, take, drop, replicate};
 ghost use Rattle.model.specs.Columns.{costOn, jobsIn, sharesIn};
 ghost use Rattle.model.specs.Limits.{jobsMost, slicesMost};
@@ -225,13 +225,6 @@ pub fn moves(board: Board, jobs: [Job; JOBS_MOST], n: usize) -> PlannedMoves
     PlannedMoves { planned, moves }
 }
 
-// As many jobs as a set can have, of a slice that may be longer.
-fn at_most_a_set(count: usize) -> usize
-    ensures { λ r. ⌜ r ≡ min count jobsMost ⌝ }
-{
-    if count < JOBS_MOST { count } else { JOBS_MOST }
-}
-
 // The costs on a kind of the first n jobs of a slice, in a column.
 fn costs_in(kind: Kind, jobs: &[Job], n: usize) -> [u32; JOBS_MOST]
     requires { ⌜ (n ≤ jobsMost) × (n ≤ length (now jobs)) ⌝ }
@@ -287,7 +280,7 @@ pub fn plan(board: Board, jobs: &[Job], shares: &mut [Share], slices: &mut [Slic
     ensures { λ r. ⌜ Promised board (now (jobs .entry)) (now (shares .entry)) (now (slices .entry)) r (now (shares .exit)) (now (slices .exit)) ⌝ }
 {
     let n = jobs.len();
-    let few = at_most_a_set(n);
+    let few = rows::at_most(n, JOBS_MOST);
     let first = costs_in(Kind::First, jobs, few);
     let second = costs_in(Kind::Second, jobs, few);
     let t = plan_tables(board, first, second, n, shares.len(), slices.len());
