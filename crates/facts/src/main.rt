@@ -95,7 +95,7 @@ fn put_moves(moves: [Moves; JOBS_MOST], n: usize) {
         if i < n {
             put_job(i, of_job);
         }
-        i = i + 1;
+        i += 1;
     }
 }
 
@@ -185,7 +185,7 @@ fn are_shares(rows: [Share; JOBS_MOST], plan: [Share; JOBS_MOST], n: usize) -> b
         if !is_share(row, planned, i < n) {
             return false;
         }
-        i = i + 1;
+        i += 1;
     }
     true
 }
@@ -198,7 +198,7 @@ fn are_slices(rows: [Slice; SLICES_MOST], plan: [Slice; SLICES_MOST], n: usize) 
         if !is_slice(row, planned, i < n) {
             return false;
         }
-        i = i + 1;
+        i += 1;
     }
     true
 }
@@ -217,7 +217,7 @@ fn are_moves(
         if i < n && !same_moves(of_job, of_rows) {
             return false;
         }
-        i = i + 1;
+        i += 1;
     }
     true
 }
@@ -257,7 +257,7 @@ fn jobs_of(first: [u32; JOBS_MOST], second: [u32; JOBS_MOST]) -> [Job; JOBS_MOST
     let mut i: usize = 0;
     while i < JOBS_MOST {
         jobs[i] = model::job_of(first[i], second[i]);
-        i = i + 1;
+        i += 1;
     }
     jobs
 }
@@ -271,7 +271,7 @@ fn shares_of(first: [u16; JOBS_MOST], second: [u16; JOBS_MOST]) -> [Share; JOBS_
             first: FirstTicks(first[i] as u32),
             second: SecondTicks(second[i] as u32),
         };
-        i = i + 1;
+        i += 1;
     }
     shares
 }
@@ -282,7 +282,7 @@ fn slices_of(packed: [u64; SLICES_MOST]) -> [Slice; SLICES_MOST] {
     let mut i: usize = 0;
     while i < SLICES_MOST {
         slices[i] = model::slice_in(packed[i]);
-        i = i + 1;
+        i += 1;
     }
     slices
 }
@@ -317,7 +317,7 @@ fn are_tick_marks(column: [u16; JOBS_MOST]) -> bool {
         if column[i] != 65535 {
             return false;
         }
-        i = i + 1;
+        i += 1;
     }
     true
 }
@@ -328,7 +328,7 @@ fn are_packed_marks(column: [u64; SLICES_MOST]) -> bool {
         if column[i] != 65535 {
             return false;
         }
-        i = i + 1;
+        i += 1;
     }
     true
 }

@@ -1,5 +1,5 @@
-// Runs the split on the sets of document 01 and on the Table I of source document 003, and on sets that every check refuses. A line each:
-// the starting balance of the two kinds, then the shares, or the refusal's number and place.
+// Runs the split on the worked sets of the rules (split/proofs/Examples.antt has their answers), among them Table I of the paper (docs/SOURCES.md), and on
+// sets that every check refuses. A line each: the starting balance of the two kinds, then the shares, or the refusal's number and place.
 use libc::STDOUT_FILENO;
 use model::Board;
 use model::FirstTicks;
@@ -11,12 +11,12 @@ use model::SecondTicks;
 use split::Balanced;
 use split::Outcome;
 
-// B(a,b) of document 01.
+// A job on both kinds.
 fn both(a: u32, b: u32) -> Job {
     Job::Both(FirstTicks(a), SecondTicks(b))
 }
 
-// F(a) of document 01.
+// A job on the first kind only, and on the second only.
 fn first(a: u32) -> Job {
     Job::OnlyFirst(FirstTicks(a))
 }
@@ -62,7 +62,7 @@ fn put_shares(first: [u16; JOBS_MOST], second: [u16; JOBS_MOST], n: usize) {
         if i < n {
             put_share(first[i], second[i]);
         }
-        i = i + 1;
+        i += 1;
     }
 }
 
