@@ -9,10 +9,9 @@ use Rattle.model.specs.Columns.{sharesIn}
 use Rattle.model.specs.Limits.{jobsMost, slicesMost}
 use Rattle.model.specs.Packed.{slicesIn}
 use Rattle.model.specs.Refusal.{Answer}
-use Rattle.model.specs.declared.Refusal.{Refusal}
 use Rattle.model.proofs.Determined.{Once, said-once, refusal-back, answerOf}
 use Rattle.text.specs.Input.{Head, saysReading, Reads}
-use Rattle.text.specs.Output.{planText, refusalText, saysWritten, Writes}
+use Rattle.text.specs.Output.{planText, refusedText, saysWritten, Writes}
 use Rattle.text.specs.declared.Reading.{Reading}
 use Rattle.text.specs.declared.Reading.the-variants.{Set, Refused}
 use Rattle.text.specs.declared.Written.{Written}
@@ -52,5 +51,5 @@ pub write-plan-once : (first second : List ℕ) (n : ℕ) (slices : List ℕ) (k
     → Once (λ (r : Written × List ℕ). Writes before (r .1) (planText (sharesIn (min n jobsMost) first second) (slicesIn (min k slicesMost) slices)) (r .0))
 write-plan-once first second n slices k before = writes-once before (planText (sharesIn (min n jobsMost) first second) (slicesIn (min k slicesMost) slices))
 
-pub write-refusal-once : (refusal : Refusal) (before : List ℕ) → Once (λ (r : Written × List ℕ). Writes before (r .1) (refusalText refusal) (r .0))
-write-refusal-once refusal before = writes-once before (refusalText refusal)
+pub write-refusal-once : (number place : ℕ) (before : List ℕ) → Once (λ (r : Written × List ℕ). Writes before (r .1) (refusedText number place) (r .0))
+write-refusal-once number place before = writes-once before (refusedText number place)

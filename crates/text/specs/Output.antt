@@ -1,7 +1,7 @@
 -- The output: the lines of a plan, or of a refusal. Document 01, "The text".
 --   planRecords      10 with the counts, 11 for each job, 12 for each slice in the table's order
 --   refusedRecords   1f with the number and the place
---   planText, refusedText    the same as bytes of a text; refusalText by the code's refusal
+--   planText, refusedText    the same as bytes of a text
 --   written          a lent text with bytes at its front
 --   saysWritten      what the code's answer says: the count of the bytes written, or refusal 7
 --   Writes           what a writer promises: its answer, and every byte of the lent text
@@ -15,9 +15,8 @@ use lib.Dec.{ltb}
 use lib.ListN.{length, drop}
 use Rattle.model.specs.Board.{on}
 use Rattle.model.specs.Limits.{jobsMost, slicesMost}
-use Rattle.model.specs.Refusal.{Answer, given, refused, saysRefusal, numberOf, placeOf}
+use Rattle.model.specs.Refusal.{Answer, given, refused, saysRefusal}
 use Rattle.model.specs.Split.{Ticks}
-use Rattle.model.specs.declared.Refusal.{Refusal}
 use Rattle.model.specs.declared.Slice.{Slice}
 use Rattle.text.specs.Hex.{two, textOf}
 use Rattle.text.specs.declared.Written.{Written}
@@ -47,9 +46,6 @@ planText ss rows = textOf (planRecords ss rows)
 
 abbrev pub refusedText : (number place : ℕ) → List ℕ
 refusedText number place = textOf (refusedRecords number place)
-
-abbrev pub refusalText : Refusal → List ℕ
-refusalText r = refusedText (numberOf r) (placeOf r)
 
 -- Refusal 7 where a text is shorter than what is to be written, and then no byte changes. Bytes past the lines stay.
 abbrev pub writes : (text new : List ℕ) → Answer ℕ

@@ -10,12 +10,6 @@ returns : tie.Need-returns
 unfolding digitsOf textOf
 returns c = too-short _ _ 7 refl (c .if1 .taken)
 
-number-requires : tie.Need-number-requires
-number-requires c κs = search needs
-
-place-requires : tie.Need-place-requires
-place-requires c κs = search needs
-
 slice-aggregate-put-line : tie.Need-slice-aggregate-put-line
 slice-aggregate-put-line c = search needs
 
@@ -29,17 +23,13 @@ returns-2 : tie.Need-returns-2
 unfolding digitsOf textOf
 returns-2 c =
     let put = c .before .before in
-    let placed = put .before .before .before in
-    let numbered = placed .before in
-    rw (put .put-line .ensures, placed .place .ensures, numbered .number .ensures) (all-written _ _ 7 refl (numbered .before .if1 .left))
+    rw (put .put-line .ensures) (all-written _ _ 7 refl (put .before .before .before .if1 .left))
 
 pub write-refusal-spec : {M : Type 1} → statement M
 write-refusal-spec =
     tie.close
     (tie.spec
     returns
-    number-requires
-    place-requires
     slice-aggregate-put-line
     put-line-requires
     same-length
