@@ -3,7 +3,7 @@
 use mathlib.Core.Bool.{Bool, true, false, cond, _&&_}
 use mathlib.Core.List.{List, [], _∷_}
 use mathlib.Core.Path.{_≡_, refl, sym, ap, _∙_}
-use Prim.Native.Nat.{ℕ, zero, suc, _+_, _-_, _*_, _%_, _≤_, _<_}
+use Prim.Native.Nat.{ℕ, zero, suc, _+_, _-_, _*_, _/_, _%_, _≤_, _<_}
 use native.Mathlib.Omega.{arith}
 use native.Mathlib.Numerals.{add-one}
 use borrow.Author.Tests.{leb-true, eqb-true}
@@ -318,7 +318,7 @@ module _ (bs : List ℕ) (there : isThere (bytesOf (lineIn bs)) ≡ true) where
       go true [] small h = absurd (let z : _≡_ {A = ℕ} 0 1 = cc in omega arith)
       go true (d ∷ ds) small h = paired-is (d ∷ ds) small h
 
-  pub numbers-hold : (from : ℕ) (line : Numbers) → Numbered (digitsIn bs) from line → HoldsRecord (recordIn (lineIn bs)) (line .end - from) line
+  pub numbers-hold : (from : ℕ) (line : Numbers) → Numbered (digitsIn bs) from line → HoldsRecord (recordIn (lineIn bs)) ((line .end - from) / 2) line
   numbers-hold from line n =
       let p = record-paired in
       record {

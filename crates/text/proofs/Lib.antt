@@ -1,6 +1,6 @@
 pub mod Lines
 pub mod Digits
-pub mod Records
+pub mod Entries
 pub mod LineByLine
 pub mod Stores
 pub mod PlanText

@@ -20,7 +20,7 @@ use Rattle.text.specs.Input.{lineSays, asJob, jobsFrom}
 use Rattle.text.specs.Reader.{isThere, Costs, costsSaid}
 use Rattle.text.specs.declared.Entry.{Entry}
 use Rattle.text.specs.declared.Entry.the-variants.{OfBoard, OfJob}
-use Rattle.text.proofs.Records.{given-there}
+use Rattle.text.proofs.Entries.{given-there}
 
 -- Jobs behind others.
 abbrev onto : List Job → Answer (List Job) → Answer (List Job)

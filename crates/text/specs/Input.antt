@@ -26,17 +26,17 @@ use Rattle.model.specs.declared.Job.{Job}
 use Rattle.model.specs.declared.Job.the-variants.{Both, OnlyFirst, OnlySecond}
 use Rattle.model.specs.declared.Kind.{Kind}
 use Rattle.model.specs.declared.Kind.the-variants.{First, Second}
-use Rattle.text.specs.Hex.{Maybe, none, some, linesOf, bytesOf, numberIn}
+use Rattle.text.specs.Hex.{Maybe, none, some, linesOf, bytesOf}
+use Rattle.text.specs.Records.{boardForm, jobForm, isA, field}
 use Rattle.text.specs.declared.Entry.{Entry}
 use Rattle.text.specs.declared.Entry.the-variants.{OfBoard, OfJob}
 use Rattle.text.specs.declared.Reading.{Reading}
 use Rattle.text.specs.declared.Reading.the-variants.{Set, Refused}
 
--- 01: W in two bytes, the cores of the first kind and of the second.
 abbrev pub boardIn : List ℕ → Board
-boardIn bs = record { window = numberIn (take 2 bs); first = numberIn (take 1 (drop 2 bs)); second = numberIn (take 1 (drop 3 bs)) }
+boardIn r = record { window = field boardForm 0 r; first = field boardForm 1 r; second = field boardForm 2 r }
 
--- 02: the allowed byte (0 both, 1 first, 2 second), then two costs. The cost of a kind that is not allowed has to be 0.
+-- The cost of a kind that is not allowed has to be 0.
 unfoldable pub jobIn : (allowed c1 c2 : ℕ) → Maybe Job
 jobIn allowed c1 c2 =
     cond (eqb allowed 0) (some (Both (record { 0 = c1 }) (record { 0 = c2 })))
@@ -47,13 +47,10 @@ abbrev pub entryJob : Maybe Job → Maybe Entry
 entryJob none = none
 entryJob (some j) = some (OfJob j)
 
--- By the first byte and the length of the record: 5 bytes for a board, 10 for a job.
 unfoldable pub entryOf : List ℕ → Maybe Entry
-entryOf [] = none
-entryOf (tag ∷ bs) =
-    cond (eqb tag 1 && eqb (length bs) 4) (some (OfBoard (boardIn bs)))
-    (cond (eqb tag 2 && eqb (length bs) 9)
-    (entryJob (jobIn (numberIn (take 1 bs)) (numberIn (take 4 (drop 1 bs))) (numberIn (drop 5 bs)))) none)
+entryOf r =
+    cond (isA boardForm r) (some (OfBoard (boardIn r)))
+    (cond (isA jobForm r) (entryJob (jobIn (field jobForm 0 r) (field jobForm 1 r) (field jobForm 2 r))) none)
 
 abbrev pub recordSays : ℕ → Maybe Entry → Answer Entry
 recordSays i none = refused 9 i

@@ -1,5 +1,6 @@
 pub mod Hex
+pub mod Records
 pub mod Input
-pub mod Reader
 pub mod Output
+pub mod Reader
 pub mod Example

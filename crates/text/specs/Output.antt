@@ -15,21 +15,24 @@ use lib.Dec.{ltb}
 use lib.ListN.{length, drop}
 use Rattle.model.specs.Board.{on}
 use Rattle.model.specs.Limits.{jobsMost, slicesMost}
-use Rattle.model.specs.Refusal.{Answer, given, refused, saysRefusal}
+use Rattle.model.specs.Packed.{kindNumber}
+use Rattle.model.specs.Refusal.{Answer, given, saysRefusal}
 use Rattle.model.specs.Split.{Ticks}
+use Rattle.model.specs.declared.Refusal.{Refusal}
 use Rattle.model.specs.declared.Slice.{Slice}
-use Rattle.text.specs.Hex.{two, textOf}
+use Rattle.text.specs.Hex.{textOf}
+use Rattle.text.specs.Records.{countsForm, shareForm, sliceForm, refusalForm, lineSize, recordOf}
 use Rattle.text.specs.declared.Written.{Written}
 use Rattle.text.specs.declared.Written.the-variants.{Bytes, Refused}
 
 abbrev pub countRecord : (jobs slices : ℕ) → List ℕ
-countRecord jobs slices = 16 ∷ jobs ∷ slices ∷ []
+countRecord jobs slices = recordOf countsForm (jobs ∷ slices ∷ [])
 
 abbrev pub shareRecord : ℕ → Ticks → List ℕ
-shareRecord job s = 17 ∷ job ∷ (two (s .first) ++ two (s .second))
+shareRecord job s = recordOf shareForm (job ∷ s .first ∷ s .second ∷ [])
 
 abbrev pub sliceRecord : Slice → List ℕ
-sliceRecord s = 18 ∷ s .job ∷ on (s .kind) 1 2 ∷ s .core ∷ (two (s .start) ++ two (s .length))
+sliceRecord s = recordOf sliceForm (s .job ∷ kindNumber (s .kind) ∷ s .core ∷ s .start ∷ s .length ∷ [])
 
 unfoldable pub shareRecords : ℕ → List Ticks → List (List ℕ)
 shareRecords i [] = []
@@ -39,7 +42,7 @@ abbrev pub planRecords : List Ticks → List Slice → List (List ℕ)
 planRecords ss rows = countRecord (length ss) (length rows) ∷ (shareRecords 0 ss ++ map sliceRecord rows)
 
 abbrev pub refusedRecords : (number place : ℕ) → List (List ℕ)
-refusedRecords number place = (31 ∷ number ∷ place ∷ []) ∷ []
+refusedRecords number place = recordOf refusalForm (number ∷ place ∷ []) ∷ []
 
 abbrev pub planText : List Ticks → List Slice → List ℕ
 planText ss rows = textOf (planRecords ss rows)
@@ -65,4 +68,4 @@ pub record Writes (before after lines : List ℕ) (r : Written) : Type 0 where
 
 -- The counts' line, a line for each job and a line for each slice, where there are as many as can be.
 abbrev pub answerMost : ℕ
-answerMost = 7 + 13 * jobsMost + 17 * slicesMost
+answerMost = lineSize countsForm + lineSize shareForm * jobsMost + lineSize sliceForm * slicesMost

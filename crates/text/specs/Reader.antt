@@ -6,7 +6,7 @@
 --   isEnd        whether a line ends here: at the end of the text, or at a line feed
 --   Spells       a run of digits, as many as are asked for or as there are: its number, and where it ends
 --   Numbered     the numbers of a line's digits, and where they end
---   HoldsRecord  the numbers of a record, as a line of so many digits has them
+--   HoldsRecord  the numbers of a record of so many bytes, as its line has them
 --   saysLine, saysRow   what the code's answers on a line say
 --   SaysRecord   an answer on a line that is what its record says, told by its numbers
 --   costsSaid    of an answer that gives a job, what the job costs on each kind
@@ -18,7 +18,7 @@ use mathlib.Core.List.{List, [], _∷_}
 use mathlib.Core.Path.{_≡_}
 use Prim.Native.Nat.{ℕ, suc, _+_, _*_, _<_}
 use lib.Dec.{eqb}
-use lib.ListN.{length, take, drop}
+use lib.ListN.{length, take, drop, getD}
 use Rattle.model.specs.Columns.{costOn}
 use Rattle.rows.specs.Lists.{All}
 use Rattle.model.specs.Refusal.{Answer, given, refused, saysRefusal, andThen}
@@ -26,6 +26,7 @@ use Rattle.model.specs.declared.Board.{Board}
 use Rattle.model.specs.declared.Job.{Job}
 use Rattle.model.specs.declared.Kind.the-variants.{First, Second}
 use Rattle.text.specs.Hex.{Maybe, none, some, nibbleOf, numberIn}
+use Rattle.text.specs.Records.{jobForm}
 use Rattle.text.specs.Input.{Input, entryOf, recordSays, jobsFrom, inColumns, Gives}
 use Rattle.text.specs.declared.Entry.{Entry}
 use Rattle.text.specs.declared.Reading.{Reading}
@@ -75,19 +76,26 @@ pub record Spells (ds : List ℕ) (from most : ℕ) (r : Run) : Type 0 where
   pub value : r .value ≡ hexIn (take most ds)
   pub end : r .end ≡ from + length (take most ds)
 
-pub record Numbered (ds : List ℕ) (from : ℕ) (line : Numbers) : Type 0 where
-  pub head : line .head ≡ hexIn (take 4 ds)
-  pub a : line .a ≡ hexIn (take 8 (drop 4 ds))
-  pub b : line .b ≡ hexIn (take 8 (drop 12 ds))
-  pub end : line .end ≡ from + length ds
+-- A line is cut into runs as a job is: its first byte with the allowed kinds, and each cost.
+abbrev pub headSize : ℕ
+headSize = 1 + getD (jobForm .widths) 0 0
+
+abbrev pub costSize : ℕ
+costSize = getD (jobForm .widths) 1 0
 
 -- Two digits for each byte.
+pub record Numbered (ds : List ℕ) (from : ℕ) (line : Numbers) : Type 0 where
+  pub head : line .head ≡ hexIn (take (2 * headSize) ds)
+  pub a : line .a ≡ hexIn (take (2 * costSize) (drop (2 * headSize) ds))
+  pub b : line .b ≡ hexIn (take (2 * costSize) (drop (2 * (headSize + costSize)) ds))
+  pub end : line .end ≡ from + length ds
+
 pub record HoldsRecord (bs : List ℕ) (size : ℕ) (line : Numbers) : Type 0 where
-  pub size-is : size ≡ length bs + length bs
+  pub size-is : size ≡ length bs
   pub small : All (λ (b : ℕ). b < 256) bs
-  pub head : line .head ≡ numberIn (take 2 bs)
-  pub a : line .a ≡ numberIn (take 4 (drop 2 bs))
-  pub b : line .b ≡ numberIn (take 4 (drop 6 bs))
+  pub head : line .head ≡ numberIn (take headSize bs)
+  pub a : line .a ≡ numberIn (take costSize (drop headSize bs))
+  pub b : line .b ≡ numberIn (take costSize (drop (headSize + costSize) bs))
 
 abbrev pub saysLine : Line → Answer Entry
 saysLine (Says e) = given e

@@ -16,7 +16,7 @@ use Rattle.text.specs.declared.Entry.{Entry}
 use Rattle.text.proofs.Digits.{digits-fit, line-ends}
 use Rattle.text.proofs.Lent.{gives-refused, gives-as}
 use Rattle.text.proofs.Lines.{linesOf-at}
-use Rattle.text.proofs.Records.{given-there}
+use Rattle.text.proofs.Entries.{given-there}
 use borrow.Author.Needs.{needs}
 use Rattle.text.proofs.reader.read.Statement.{statement}
 use Rattle.text.proofs.reader.read.Tie as tie
