@@ -13,7 +13,8 @@ use borrow.Author.Tests.{ltb-true, ltb-false}
 use lib.Dec.{ltb}
 use lib.ListN.{length, drop}
 use Rattle.model.specs.Limits.{jobsMost, slicesMost}
-use Rattle.model.specs.Refusal.{Answer, given, refused, andThen}
+use Rattle.model.specs.Refusal.{Answer, given, refused, saysRefusal, andThen}
+use Rattle.model.specs.declared.Refusal.{Refusal}
 use Rattle.text.specs.Hex.{some}
 use Rattle.text.specs.Input.{Input, inputOf}
 use Rattle.text.specs.Output.{Writes}
@@ -103,11 +104,11 @@ entry-cases {asked} {before} {after} {count} p = go (ltb (length before) (length
     go true t is now = inl (record { few = ltb-true _ _ t; zero = is; same = now })
     go false t is now = inr (record { enough = ltb-false _ _ t; all = is; front = now })
 
-pub writes-put : {before after : List ℕ} (lines : List ℕ) {count : ℕ} → Writes before after lines (Bytes count)
+pub writes-put : {short : Refusal} {before after : List ℕ} (lines : List ℕ) {count : ℕ} → Writes short before after lines (Bytes count)
     → (count ≡ length lines) × (after ≡ lines ++ drop (length lines) before)
-writes-put {before} {after} lines {count} w = go (ltb (length before) (length lines)) (w .says) (w .text)
+writes-put {short} {before} {after} lines {count} w = go (ltb (length before) (length lines)) (w .says) (w .text)
   where
-    go : (t : Bool) → given count ≡ cond t (refused 7 0) (given (length lines)) → after ≡ cond t before (lines ++ drop (length lines) before)
+    go : (t : Bool) → given count ≡ cond t (saysRefusal short) (given (length lines)) → after ≡ cond t before (lines ++ drop (length lines) before)
         → (count ≡ length lines) × (after ≡ lines ++ drop (length lines) before)
     go true says now = let z : _≡_ {A = ℕ} 0 1 = cc in absurd (omega arith)
     go false says now = (cc, now)

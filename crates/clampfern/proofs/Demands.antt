@@ -23,6 +23,7 @@ use Rattle.model.specs.declared.Kind.{Kind}
 use Rattle.model.specs.declared.Kind.the-variants.{First, Second}
 use Rattle.model.specs.declared.Board.{Board}
 use Rattle.model.specs.declared.Job.{Job}
+use Rattle.model.specs.declared.Refusal.the-variants.{TooShort}
 use Rattle.model.specs.declared.Slice.{Slice}
 use Rattle.rows.proofs.Lists.{all-at, pairs-at}
 use Rattle.model.proofs.Splits.{all-done-length, all-done-at}
@@ -70,7 +71,7 @@ module _ {asked before after : List ℕ} {count : ℕ} (p : Entered asked before
       (λ put. rw (put .front, put .all) (take-append-seam (answerText asked) _)) (entry-cases p)
 
 -- The same of `plan_text`, which gives a count only where the lines fit.
-pub text-answer : (asked : List ℕ) {before after : List ℕ} {count : ℕ} → Writes before after (answerText asked) (Bytes count)
+pub text-answer : (asked : List ℕ) {before after : List ℕ} {count : ℕ} → Writes TooShort before after (answerText asked) (Bytes count)
     → take count after ≡ answerText asked
 text-answer asked w = let put = writes-put (answerText asked) w in rw (put .1, put .0) (take-append-seam (answerText asked) _)
 

@@ -8,6 +8,7 @@ use borrow.Author.Tests.{le-ltb}
 use lib.Dec.{ltb}
 use lib.ListN.{length, drop}
 use Rattle.model.specs.Refusal.{given, refused}
+use Rattle.model.specs.declared.Refusal.the-variants.{TooShort}
 use Rattle.text.specs.Output.{saysWritten, Writes}
 use Rattle.text.specs.declared.Written.{Written}
 use Rattle.text.specs.declared.Written.the-variants.{Bytes, Refused}
@@ -23,7 +24,7 @@ bytes-are (Bytes n) false size e = cc
 bytes-are (Refused r) true size e = cc
 bytes-are (Refused r) false size e = let z : _≡_ {A = ℕ} 0 1 = cc in absurd (omega arith)
 
-pub entered : {asked before after : List ℕ} (r : Written) {n : ℕ} → bytesOf r ≡ n → Writes before after (answerText asked) r → Entered asked before after n
+pub entered : {asked before after : List ℕ} (r : Written) {n : ℕ} → bytesOf r ≡ n → Writes TooShort before after (answerText asked) r → Entered asked before after n
 entered {asked} {before} r e w =
     record {
       count = sym e ∙ bytes-are r (ltb (length before) (length (answerText asked))) (length (answerText asked)) (w .says);

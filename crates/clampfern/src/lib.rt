@@ -3,6 +3,7 @@ ghost use Prim.Native.Nat.{_<_};
 ghost use Rattle.model.specs.Columns.{jobsIn};
 ghost use Rattle.model.specs.Limits.{jobsMost, slicesMost};
 ghost use Rattle.model.specs.Refusal.{numberOf, placeOf};
+ghost use Rattle.model.specs.declared.Refusal.the-variants.{TooShort};
 ghost use Rattle.planner.specs.Plan.{planOf};
 ghost use Rattle.text.specs.Output.{refusedText, Writes};
 ghost use Rattle.clampfern.specs.Answer.{linesFor, answerText, Entered, Answered};
@@ -24,7 +25,7 @@ pub struct AnswerLines {
 // The line of a refusal, which has one byte for the place. Here a place is a line of a text, 66 at most, or a job of a set, so it always fits.
 fn write_refused(refusal: Refusal, out: &mut [u8]) -> Written
     requires { ⌜ placeOf refusal < 256 ⌝ }
-    ensures { λ r. ⌜ Writes (now (out .entry)) (now (out .exit)) (refusedText (numberOf refusal) (placeOf refusal)) r ⌝ }
+    ensures { λ r. ⌜ Writes TooShort (now (out .entry)) (now (out .exit)) (refusedText (numberOf refusal) (placeOf refusal)) r ⌝ }
 {
     text::write_refusal(model::number(refusal), model::place(refusal) as u8, out)
 }
@@ -37,7 +38,7 @@ fn answer_in(
     n: usize,
     out: &mut [u8],
 ) -> Written
-    ensures { λ r. ⌜ Writes (now (out .entry)) (now (out .exit)) (linesFor (planOf board n (jobsIn n (now (first .entry)) (now (second .entry))) jobsMost slicesMost)) r ⌝ }
+    ensures { λ r. ⌜ Writes TooShort (now (out .entry)) (now (out .exit)) (linesFor (planOf board n (jobsIn n (now (first .entry)) (now (second .entry))) jobsMost slicesMost)) r ⌝ }
 {
     let mut shares1 = [0u16; JOBS_MOST];
     let mut shares2 = [0u16; JOBS_MOST];
@@ -61,7 +62,7 @@ fn answer_in(
 
 // The answer to a text, into a lent text: the lines of its plan, or the line of its refusal.
 pub fn plan_text(text: &[u8], out: &mut [u8]) -> Written
-    ensures { λ r. ⌜ Writes (now (out .entry)) (now (out .exit)) (answerText (now (text .entry))) r ⌝ }
+    ensures { λ r. ⌜ Writes TooShort (now (out .entry)) (now (out .exit)) (answerText (now (text .entry))) r ⌝ }
 {
     let mut first = [0u32; JOBS_MOST];
     let mut second = [0u32; JOBS_MOST];

@@ -12,8 +12,8 @@ use mathlib.Core.List.{List, [], _∷_, _++_, map}
 use mathlib.Core.Path.{_≡_}
 use Prim.Native.Nat.{ℕ, _+_, _*_}
 use lib.Dec.{ltb}
-use lib.ListN.{length, drop}
-use Rattle.model.specs.Board.{on}
+use lib.ListN.{length}
+use Rattle.rows.specs.Lists.{front}
 use Rattle.model.specs.Limits.{jobsMost, slicesMost}
 use Rattle.model.specs.Packed.{kindNumber}
 use Rattle.model.specs.Refusal.{Answer, given, saysRefusal}
@@ -50,20 +50,20 @@ planText ss rows = textOf (planRecords ss rows)
 abbrev pub refusedText : (number place : ℕ) → List ℕ
 refusedText number place = textOf (refusedRecords number place)
 
--- Refusal 7 where a text is shorter than what is to be written, and then no byte changes. Bytes past the lines stay.
-abbrev pub writes : (text new : List ℕ) → Answer ℕ
-writes text new = cond (ltb (length text) (length new)) (refused 7 0) (given (length new))
+-- Where a text is shorter than what is to be written no byte changes, and `short` is the refusal that tells so. Bytes past the lines stay.
+abbrev pub writes : (short : Refusal) (text new : List ℕ) → Answer ℕ
+writes short text new = cond (ltb (length text) (length new)) (saysRefusal short) (given (length new))
 
 abbrev pub written : (text new : List ℕ) → List ℕ
-written text new = cond (ltb (length text) (length new)) text (new ++ drop (length new) text)
+written text new = cond (ltb (length text) (length new)) text (front new text)
 
 abbrev pub saysWritten : Written → Answer ℕ
 saysWritten (Bytes n) = given n
 saysWritten (Refused r) = saysRefusal r
 
 -- A lent text before and after the lines were written.
-pub record Writes (before after lines : List ℕ) (r : Written) : Type 0 where
-  pub says : saysWritten r ≡ writes before lines
+pub record Writes (short : Refusal) (before after lines : List ℕ) (r : Written) : Type 0 where
+  pub says : saysWritten r ≡ writes short before lines
   pub text : after ≡ written before lines
 
 -- The counts' line, a line for each job and a line for each slice, where there are as many as can be.

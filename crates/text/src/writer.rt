@@ -9,9 +9,10 @@ ghost use Rattle.model.specs.Columns.{sharesIn};
 ghost use Rattle.model.specs.Limits.{jobsMost, slicesMost};
 ghost use Rattle.model.specs.Packed.{kindNumber, sliceIn, slicesIn};
 ghost use Rattle.model.specs.Split.{share};
+ghost use Rattle.model.specs.declared.Refusal.the-variants.{TooShort};
 ghost use Rattle.text.specs.Hex.{glyphOf, digitsOf, lineOf, textOf};
-ghost use Rattle.text.specs.Output.{shareRecord, shareRecords, sliceRecord, planText, refusedText, Writes};
 ghost use Rattle.text.specs.Records.{shareForm, sliceForm, lineSize};
+ghost use Rattle.text.specs.Output.{shareRecord, shareRecords, sliceRecord, planText, refusedText, Writes};
 use model::JOBS_MOST;
 use model::Kind;
 use model::Refusal;
@@ -36,7 +37,7 @@ pub fn write_plan(
     k: usize,
     text: &mut [u8],
 ) -> Written
-    ensures { λ r. ⌜ Writes (now (text .entry)) (now (text .exit)) (planText (sharesIn (min n jobsMost) (now (first .entry)) (now (second .entry))) (slicesIn (min k slicesMost) (now (slices .entry)))) r ⌝ }
+    ensures { λ r. ⌜ Writes TooShort (now (text .entry)) (now (text .exit)) (planText (sharesIn (min n jobsMost) (now (first .entry)) (now (second .entry))) (slicesIn (min k slicesMost) (now (slices .entry)))) r ⌝ }
 {
     let jobs = rows::at_most(n, JOBS_MOST);
     let rows = rows::at_most(k, SLICES_MOST);
@@ -53,7 +54,7 @@ pub fn write_plan(
 
 // Writes a refusal's line: 1f with the number and the place, a byte each. A place may be greater elsewhere; who calls shows that it is not.
 pub fn write_refusal(number: u8, place: u8, text: &mut [u8]) -> Written
-    ensures { λ r. ⌜ Writes (now (text .entry)) (now (text .exit)) (refusedText number place) r ⌝ }
+    ensures { λ r. ⌜ Writes TooShort (now (text .entry)) (now (text .exit)) (refusedText number place) r ⌝ }
 {
     if text.len() < REFUSAL_LINE {
         return Written::Refused(Refusal::TooShort);

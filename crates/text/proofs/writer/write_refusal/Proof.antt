@@ -9,7 +9,7 @@ use Rattle.text.proofs.writer.write_refusal.Tie as tie
 
 returns : tie.Need-returns
 unfolding digitsOf textOf
-returns c = too-short _ _ 7 refl (c .if1 .taken)
+returns c = too-short _ _ _ (lineSize refusalForm) refl (c .if1 .taken)
 
 slice-aggregate-put-line : tie.Need-slice-aggregate-put-line
 slice-aggregate-put-line c = search needs
@@ -24,7 +24,7 @@ returns-2 : tie.Need-returns-2
 unfolding digitsOf textOf
 returns-2 c =
     let put = c .before .before in
-    rw (put .put-line .ensures) (all-written _ _ 7 refl (put .before .before .before .if1 .left))
+    rw (put .put-line .ensures) (all-written _ _ _ (lineSize refusalForm) refl (put .before .before .before .if1 .left))
 
 pub write-refusal-spec : {M : Type 1} → statement M
 write-refusal-spec =
