@@ -8,9 +8,10 @@ use Prim.Native.Nat.{ℕ, zero, suc, _-_, _<_, min}
 use native.Mathlib.Numerals.{unary-clauses}
 use native.Mathlib.Omega.{arith}
 use borrow.Author.Tests.{le-ltb}
-use lib.ListN.{length, drop, replicate}
+use lib.ListN.{length, drop, replicate, length-map}
 use Rattle.rows.specs.Lists.{front}
-use Rattle.model.specs.Columns.{jobsIn, seen, sharesIn as sharesFrom}
+use Rattle.rows.proofs.Never.{never}
+use Rattle.model.specs.Columns.{costOn, jobsIn, seen, sharesIn as sharesFrom}
 use Rattle.model.specs.Limits.{jobsMost, slicesMost}
 use Rattle.model.specs.Packed.{packOf, slicesIn as slicesFrom}
 use Rattle.model.specs.Refusal.{Answer, given, refused, saysRefusal, andThen, placeOf}
@@ -39,9 +40,6 @@ use Rattle.clampfern.specs.Answer.{planned, linesFor, answerText}
 use Rattle.clampfern.proofs.Answers.{text-listed-small}
 use Rattle.clampfern.proofs.Bounds.{small, narrow}
 use Rattle.clampfern.proofs.Refusals.{text-listed}
-
-never : {A : Type 0} → _≡_ {A = ℕ} 0 1 → A
-never z = absurd (omega arith)
 
 module _ (board : Board) (js : List Job) where
   abbrev plan : Answer Plan
@@ -121,7 +119,7 @@ module _ (text : List ℕ) {c1 c2 : List ℕ} {r : Reading} (reads : Reads text 
           → linesFor (planOf board n (jobsIn n c1 c2) jobsMost slicesMost) ≡ linesFor (andThen x planned)
       go (given input) g =
           let head : _≡_ {A = Head} (record { board = board; count = n }) (record { board = input .board; count = length (input .jobs) }) = cc in
-          rw (g .first, g .second, drop-replicate (length (input .jobs)) jobsMost 0, ap (λ (h : Head). h .board) head, ap (λ (h : Head). h .count) head, costs-back (input .jobs) (g .few), plan-seen (input .board) (length (input .jobs)) (input .jobs) jobsMost slicesMost)
+          rw (g .first, g .second, length-map (input .jobs) (costOn First), length-map (input .jobs) (costOn Second), drop-replicate (length (input .jobs)) jobsMost 0, ap (λ (h : Head). h .board) head, ap (λ (h : Head). h .count) head, costs-back (input .jobs) (g .few), plan-seen (input .board) (length (input .jobs)) (input .jobs) jobsMost slicesMost)
       go (refused number place) g = never (cc)
 
   module _ (refusal : Refusal) (is : r ≡ Unread refusal) where

@@ -7,10 +7,10 @@ use mathlib.Core.List.{List, [], _∷_, map}
 use Prim.Native.Nat.{ℕ, _+_, _≤_, _<_}
 use native.Mathlib.Omega.{arith}
 use lib.ListN.{length}
-use Rattle.model.specs.Packed.{kindNumber, Narrow}
-use Rattle.model.specs.Limits.{windowMost}
 use Rattle.rows.specs.Lists.{All}
 use Rattle.rows.proofs.Lists.{all-append}
+use Rattle.model.specs.Packed.{kindNumber, Narrow}
+use Rattle.model.specs.Limits.{windowMost}
 use Rattle.model.specs.Refusal.{given}
 use Rattle.model.specs.Split.{Ticks}
 use Rattle.model.specs.declared.Kind.{Kind}
@@ -18,10 +18,10 @@ use Rattle.model.specs.declared.Kind.the-variants.{First, Second}
 use Rattle.model.specs.declared.Board.{Board}
 use Rattle.model.specs.declared.Job.{Job}
 use Rattle.model.specs.declared.Slice.{Slice}
+use Rattle.planner.specs.Plan.{Plan, planOf}
 use Rattle.text.specs.Hex.{some, linesOf, bytesOf}
 use Rattle.text.specs.Output.{shareRecords, sliceRecord, planRecords, planText}
 use Rattle.text.proofs.RoundTrip.{IsRecord, read-back}
-use Rattle.planner.specs.Plan.{Plan, planOf}
 use Rattle.clampfern.proofs.Bounds.{Small, small, narrow}
 
 shares-records : (i : ℕ) (ss : List Ticks) → i + length ss ≤ 256 → All (λ (s : Ticks). s .first + s .second ≤ windowMost) ss

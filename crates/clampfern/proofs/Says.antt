@@ -9,7 +9,6 @@ use native.Mathlib.Omega.{arith}
 use borrow.Author.Tests.{eq-eqb}
 use lib.ListN.{length, length-append, length-map}
 use lib.Seq.{take-at, drop-at}
-use Rattle.rows.specs.Lists.{All}
 use Rattle.model.specs.Refusal.{given, refused}
 use Rattle.model.specs.Split.{Ticks}
 use Rattle.model.specs.declared.Kind.{Kind}
@@ -17,10 +16,10 @@ use Rattle.model.specs.declared.Kind.the-variants.{First, Second}
 use Rattle.model.specs.declared.Board.{Board}
 use Rattle.model.specs.declared.Job.{Job}
 use Rattle.model.specs.declared.Slice.{Slice}
+use Rattle.planner.specs.Plan.{Plan, planOf}
 use Rattle.text.specs.Hex.{some, linesOf, bytesOf}
 use Rattle.text.specs.Output.{shareRecord, shareRecords, sliceRecord, planRecords, planText, refusedText, refusedRecords}
 use Rattle.text.proofs.RoundTrip.{read-back, inBytes-back}
-use Rattle.planner.specs.Plan.{Plan, planOf}
 use Rattle.clampfern.specs.Said.{allRead, shareRead, sharesRead, sliceRead, planRead, recordsSay, saidOf}
 use Rattle.clampfern.proofs.ReadBack.{plan-back}
 

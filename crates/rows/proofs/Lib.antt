@@ -4,3 +4,4 @@ pub mod Upto
 pub mod Numbered
 pub mod Members
 pub mod Fields
+pub mod Never

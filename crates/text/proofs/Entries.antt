@@ -9,6 +9,7 @@ use lib.Dec.{eqb}
 use lib.ListN.{length, take, drop, getD}
 use lib.Seq.{drop-drop}
 use Rattle.rows.specs.Lists.{All}
+use Rattle.rows.proofs.Never.{never}
 use Rattle.model.specs.Refusal.{Answer, given, refused, andThen}
 use Rattle.model.specs.declared.Board.{Board}
 use Rattle.text.specs.Hex.{Maybe, none, some, bytesOf, numberFrom, numberIn}
@@ -105,5 +106,5 @@ pub given-there : {A : Type 0} (i : ℕ) (line : List ℕ) (f : Entry → Answer
 given-there {A} i line f x e = go (bytesOf line) e
   where
     go : (m : Maybe (List ℕ)) → andThen (bytesSay i m) f ≡ given x → isThere m ≡ true
-    go none e = absurd (let z : _≡_ {A = ℕ} 0 1 = cc in omega arith)
+    go none e = never (cc)
     go (some bs) e = refl

@@ -4,11 +4,11 @@ use mathlib.Core.Path.{_≡_, sym, _∙_}
 use mathlib.Core.List.{List, [], _∷_, _++_}
 use Prim.Native.Nat.{ℕ, suc, _+_, _≤_, _<_}
 use native.Mathlib.Nat.{add-zero, zero-add, add-suc, suc-add}
+use native.Mathlib.Numerals.{add-one}
 use borrow.Author.Tests.{lt-ltb, le-ltb}
 use lib.Dec.{ltb}
 use lib.ListN.{length, drop, getD, set}
 use lib.Seq.{sets, sets-eq, drop-cons}
-use native.Mathlib.Numerals.{add-one}
 use Rattle.model.specs.declared.Refusal.{Refusal}
 use Rattle.text.specs.Hex.{digitsOf, lineOf, textOf}
 use Rattle.text.specs.Output.{Writes}

@@ -1,9 +1,15 @@
--- The output: the lines of a plan, or of a refusal. Document 01, "The text".
---   planRecords      10 with the counts, 11 for each job, 12 for each slice in the table's order
---   refusedRecords   1f with the number and the place
---   planText, refusedText    the same as bytes of a text
---   written          a lent text with bytes at its front
---   saysWritten      what the code's answer says: the count of the bytes written, or refusal 7
+-- The output: the lines of a plan, or of a refusal. docs/SPEC.md, "The text".
+--   countRecord      the record of the counts of jobs and slices
+--   shareRecord      the record of a job's share
+--   sliceRecord      the record of a slice
+--   shareRecords     the records of shares, of jobs numbered one after the other
+--   planRecords      the records of a plan: the counts, each share in order, each slice in the table's order
+--   refusedRecords   the record of a refusal, and no other
+--   planText         a plan's records as bytes of a text
+--   refusedText      a refusal's
+--   writes           what a writer answers: the count of the bytes, or the refusal of a lent text that is too short
+--   written          a lent text with bytes at its front; where it is too short for them it stays
+--   saysWritten      what the code's answer says
 --   Writes           what a writer promises: its answer, and every byte of the lent text
 --   answerMost       the most bytes that an answer has
 -- Assumes nothing.

@@ -12,7 +12,7 @@ pub use records::ANSWER_MOST;
 pub use writer::write_plan;
 pub use writer::write_refusal;
 
-// What a line of an input says.
+// What a line of an input says. It is public since the definitions of crate clampfern cite it; no other code does.
 pub enum Entry {
     OfBoard(Board),
     OfJob(Job),

@@ -1,4 +1,4 @@
-// The reader: bytes to a board and its jobs, or the refusal of the first bad line. Document 01, "The text" and refusals 8, 9, 10 and 3.
+// The reader: bytes to a board and its jobs, or the refusal of the first bad line. docs/SPEC.md, "The text", and refusals 8, 9, 10 and 3.
 // The costs go into columns that the caller lends, once the whole text is known to be a set, so that a refusal changes none.
 ghost use mathlib.Core.List.{_++_};
 ghost use mathlib.Core.Path.{_≡_};
@@ -34,7 +34,8 @@ struct Run {
     end: usize,
 }
 
-// The numbers that the digits of a line spell: the first four, the eight behind them, the eight behind those. And where its digits end.
+// The numbers that the digits of a line spell, cut as a job's are: the first byte with the allowed kinds, and each cost. And where its digits end.
+// A board, which is shorter, is put together from them again: so each digit is read once, whatever the line turns out to be.
 struct Numbers {
     head: u32,
     a: u32,

@@ -6,9 +6,9 @@ use Prim.Native.Nat.{ℕ, _+_, _-_, _*_, _≤_}
 use native.Mathlib.Omega.{arith}
 use lib.ListN.{length, drop}
 use lib.Seq.{sets}
-use Rattle.model.specs.Columns.{sharesIn}
 use Rattle.rows.specs.Upto.{at as number}
 use Rattle.rows.proofs.Upto.{upto-left, upto-none}
+use Rattle.model.specs.Columns.{sharesIn}
 use Rattle.model.specs.Split.{Ticks, share}
 use Rattle.text.specs.Hex.{digitsOf, textOf}
 use Rattle.text.specs.Records.{shareForm, lineSize}

@@ -1,11 +1,11 @@
 -- `text::writer::write_plan` meets its contract: the lines of the counts, of the shares and of the slices are the plan's text, and as long as
 -- was tested. Assumes nothing.
+use borrow.Author.Needs.{needs}
+use Rattle.rows.proofs.Upto.{upto-length}
 use Rattle.model.specs.Columns.{sharesIn}
 use Rattle.model.specs.Packed.{slicesIn}
-use Rattle.rows.proofs.Upto.{upto-length}
 use Rattle.text.proofs.PlanText.{plan-length, plan-stored}
 use Rattle.text.proofs.Stores.{too-short, all-written}
-use borrow.Author.Needs.{needs}
 use Rattle.text.proofs.writer.write_plan.Statement.{statement}
 use Rattle.text.proofs.writer.write_plan.Tie as tie
 

@@ -1,9 +1,9 @@
 -- `text::writer::write_refusal` meets its contract: one line of three bytes. Assumes nothing.
 use mathlib.Core.Path.{refl}
+use borrow.Author.Needs.{needs}
 use Rattle.text.specs.Hex.{digitsOf, textOf}
 use Rattle.text.specs.Records.{refusalForm, lineSize}
 use Rattle.text.proofs.Stores.{too-short, all-written}
-use borrow.Author.Needs.{needs}
 use Rattle.text.proofs.writer.write_refusal.Statement.{statement}
 use Rattle.text.proofs.writer.write_refusal.Tie as tie
 

@@ -1,5 +1,5 @@
--- The whole example of document 01, from the bytes of its text to what its answer says; and answers that are wrong in one place and say nothing.
--- Assumes nothing.
+-- The whole example of docs/SPEC.md, "The text", from the bytes of its text to what its answer says; and answers that are wrong in one place and say
+-- nothing. Each is worked out by computation. Assumes nothing.
 use mathlib.Core.List.{List, [], _∷_, map}
 use mathlib.Core.Path.{_≡_, refl}
 use Prim.Native.Char.{code}
@@ -7,6 +7,7 @@ use Prim.Native.Nat.{ℕ}
 use Prim.Native.String.{String}
 use Prim.Native.String as S
 use lib.ListN.{replicate}
+use Rattle.rows.specs.Lists.{lowest}
 use Rattle.model.specs.Board.{roomOf}
 use Rattle.model.specs.Refusal.{given, refused}
 use Rattle.model.specs.Split.{share}
@@ -14,7 +15,6 @@ use Rattle.model.specs.declared.Kind.{Kind}
 use Rattle.model.specs.declared.Kind.the-variants.{First, Second}
 use Rattle.model.specs.declared.Slice.{Slice}
 use Rattle.legal.specs.Legal.{legalOf}
-use Rattle.rows.specs.Lists.{lowest}
 use Rattle.split.specs.Home.{atHome, keepOf, giveOf}
 use Rattle.split.specs.Steps.{better, nextFrom, movedOf, stepOf, stepsOf}
 use Rattle.split.specs.Shares.{settled, byOver}
