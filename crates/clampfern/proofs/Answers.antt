@@ -12,30 +12,32 @@ use native.Mathlib.Omega.{arith}
 use borrow.Author.Tests.{ltb-true, ltb-false}
 use lib.Dec.{ltb}
 use lib.ListN.{length, drop}
+use Rattle.rows.proofs.Never.{never}
 use Rattle.model.specs.Limits.{jobsMost, slicesMost}
-use Rattle.model.specs.Refusal.{Answer, given, refused, andThen}
-use Rattle.text.specs.Hex.{some}
-use Rattle.text.specs.Input.{Input, inputOf}
-use Rattle.text.specs.Output.{Writes}
-use Rattle.text.specs.declared.Written.the-variants.{Bytes}
+use Rattle.model.specs.Refusal.{Answer, given, refused, saysRefusal, andThen}
+use Rattle.model.specs.declared.Refusal.{Refusal}
 use Rattle.planner.specs.Plan.{Plan}
 use Rattle.planner.proofs.Causes.{plan-listed}
 use Rattle.planner.proofs.Demands.{listed-small}
 use Rattle.planner.proofs.PlanMoves.{plan-roomy}
+use Rattle.text.specs.Hex.{some}
+use Rattle.text.specs.Input.{Input, inputOf}
+use Rattle.text.specs.Output.{Writes}
+use Rattle.text.specs.declared.Written.the-variants.{Bytes}
 use Rattle.clampfern.specs.Answer.{planned, linesFor, answerText, Entered}
-use Rattle.clampfern.specs.Listed.{TextListed, over, digits, unknown, job-first, board-later, empty, many, of-set}
+use Rattle.clampfern.specs.Listed.{lastLine, TextListed, over, digits, unknown, job-first, board-later, empty, many, of-set}
 use Rattle.clampfern.specs.Said.{saidOf}
 use Rattle.clampfern.proofs.Refusals.{text-listed, set-few}
 use Rattle.clampfern.proofs.Says.{plan-said, refusal-said}
 
--- The numbers are 1 to 10 without 7, and no place is above 66.
+-- The numbers are 1 to 10 without 7, and no place is above the last line that is read.
 pub record SmallRefusal (number place : ℕ) : Type 0 where
   pub some : 1 ≤ number
   pub most : number ≤ 10
   pub never-7 : number ≡ 7 → ⊥
-  pub place-most : place ≤ 66
+  pub place-most : place ≤ lastLine
 
-listed-so : {number place : ℕ} → 1 ≤ number → number ≤ 10 → (number ≡ 7 → ⊥) → place ≤ 66 → SmallRefusal number place
+listed-so : {number place : ℕ} → 1 ≤ number → number ≤ 10 → (number ≡ 7 → ⊥) → place ≤ lastLine → SmallRefusal number place
 listed-so a b c d = record { some = a; most = b; never-7 = c; place-most = d }
 
 pub text-listed-small : {text : List ℕ} {number place : ℕ} → TextListed text number place → SmallRefusal number place
@@ -103,11 +105,11 @@ entry-cases {asked} {before} {after} {count} p = go (ltb (length before) (length
     go true t is now = inl (record { few = ltb-true _ _ t; zero = is; same = now })
     go false t is now = inr (record { enough = ltb-false _ _ t; all = is; front = now })
 
-pub writes-put : {before after : List ℕ} (lines : List ℕ) {count : ℕ} → Writes before after lines (Bytes count)
+pub writes-put : {short : Refusal} {before after : List ℕ} (lines : List ℕ) {count : ℕ} → Writes short before after lines (Bytes count)
     → (count ≡ length lines) × (after ≡ lines ++ drop (length lines) before)
-writes-put {before} {after} lines {count} w = go (ltb (length before) (length lines)) (w .says) (w .text)
+writes-put {short} {before} {after} lines {count} w = go (ltb (length before) (length lines)) (w .says) (w .text)
   where
-    go : (t : Bool) → given count ≡ cond t (refused 7 0) (given (length lines)) → after ≡ cond t before (lines ++ drop (length lines) before)
+    go : (t : Bool) → given count ≡ cond t (saysRefusal short) (given (length lines)) → after ≡ cond t before (lines ++ drop (length lines) before)
         → (count ≡ length lines) × (after ≡ lines ++ drop (length lines) before)
-    go true says now = let z : _≡_ {A = ℕ} 0 1 = cc in absurd (omega arith)
+    go true says now = never (cc)
     go false says now = (cc, now)

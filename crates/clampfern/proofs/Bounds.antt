@@ -6,10 +6,10 @@ use mathlib.Core.List.{List}
 use Prim.Native.Nat.{ℕ, _+_, _≤_, _<_}
 use native.Mathlib.Omega.{arith}
 use lib.ListN.{length}
-use Rattle.model.specs.Board.{coresOf}
-use Rattle.model.specs.Limits.{windowMost, coresMost, jobsMost, slicesMost}
 use Rattle.rows.specs.Lists.{All}
 use Rattle.rows.proofs.Lists.{all-map}
+use Rattle.model.specs.Board.{coresOf}
+use Rattle.model.specs.Limits.{windowMost, coresMost, jobsMost, slicesMost}
 use Rattle.model.specs.Terms.{Narrow}
 use Rattle.model.specs.Refusal.{given}
 use Rattle.model.specs.Timetable.{Inside}
@@ -24,11 +24,14 @@ use Rattle.legal.specs.Lawful.{Lawful}
 use Rattle.planner.specs.Plan.{Plan, planOf}
 use Rattle.planner.proofs.PlanLaws.{plan-shares, plan-kept, shares-lawful, shares-accepted, accepted-fits}
 
+abbrev SmallSlice : Slice → Type 0
+SmallSlice s = (s .job < jobsMost) × (s .core < coresMost) × (s .start + s .length ≤ windowMost)
+
 pub record Small (p : Plan) : Type 0 where
   pub few-jobs : length (p .shares) ≤ jobsMost
   pub few-slices : length (p .slices) ≤ slicesMost
   pub each-share : All (λ (s : Ticks). s .first + s .second ≤ windowMost) (p .shares)
-  pub each-slice : All (λ (s : Slice). (s .job < 64) × (s .core < 8) × (s .start + s .length ≤ windowMost)) (p .slices)
+  pub each-slice : All SmallSlice (p .slices)
 
 module _ (board : Board) (js : List Job) (m k : ℕ) {p : Plan} (is : planOf board (length js) js m k ≡ given p) where
   pub small : Small p
@@ -42,18 +45,17 @@ module _ (board : Board) (js : List Job) (m k : ℕ) {p : Plan} (is : planOf boa
         few-jobs = omega (arith, law .few);
         few-slices = omega (arith, kept .few, law .few, law .first-most, law .second-most);
         each-share = all-map (λ (s : Ticks). s .first + s .second ≤ board .window) _ (λ s h. omega (arith, law .window-most)) (p .shares) (fits .each);
-        each-slice = all-map (Inside board (length (p .shares))) _ (λ s h. inside law size s h) (p .slices) (kept .timetable .inside);
+        each-slice = all-map (Inside board (length (p .shares))) SmallSlice (inside law size) (p .slices) (kept .timetable .inside);
       }
     where
       few-cores : Lawful board (length js) js → (kind : Kind) → coresOf board kind ≤ coresMost
       few-cores law First = law .first-most
       few-cores law Second = law .second-most
 
-      inside : Lawful board (length js) js → length (p .shares) ≡ length js → (s : Slice) → Inside board (length (p .shares)) s
-          → (s .job < 64) × (s .core < 8) × (s .start + s .length ≤ windowMost)
+      inside : Lawful board (length js) js → length (p .shares) ≡ length js → (s : Slice) → Inside board (length (p .shares)) s → SmallSlice s
       inside law size s h =
           (omega (arith, h .job, law .few), omega (arith, h .core, few-cores law (s .kind)), omega (arith, h .ends, law .window-most))
 
   pub narrow : All Narrow (p .slices)
   narrow =
-      all-map _ Narrow (λ s h. record { job = omega arith; core = omega arith; start = omega arith; length = omega arith }) (p .slices) (small .each-slice)
+      all-map SmallSlice Narrow (λ s h. record { job = omega arith; core = omega arith; start = omega arith; length = omega arith }) (p .slices) (small .each-slice)

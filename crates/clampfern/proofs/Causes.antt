@@ -9,15 +9,16 @@ use native.Mathlib.Omega.{arith}
 use borrow.Author.Tests.{lt-ltb, le-ltb}
 use lib.ListN.{length, drop}
 use lib.Seq.{drop-cons}
+use Rattle.rows.proofs.Never.{never}
 use Rattle.model.specs.Limits.{jobsMost, slicesMost, textMost}
 use Rattle.model.specs.Refusal.{Answer, given, refused, andThen}
 use Rattle.model.specs.declared.Board.{Board}
 use Rattle.model.specs.declared.Job.{Job}
+use Rattle.planner.proofs.Causes.{listed-plan}
 use Rattle.text.specs.Hex.{linesOf}
 use Rattle.text.specs.Input.{lineSays, asBoard, asJob, jobsFrom, inputFrom, inputOf}
 use Rattle.text.specs.declared.Entry.the-variants.{OfBoard, OfJob}
-use Rattle.planner.proofs.Causes.{listed-plan}
-use Rattle.clampfern.specs.Listed.{lineAt, Good, board, job, Reached, TextListed, over, digits, unknown, job-first, board-later, empty, many, of-set}
+use Rattle.clampfern.specs.Listed.{lineAt, lastLine, Good, board, job, Reached, TextListed, over, digits, unknown, job-first, board-later, empty, many, of-set}
 use Rattle.clampfern.proofs.Answers.{answerOf}
 
 -- What stops at the second of three steps stops.
@@ -26,7 +27,7 @@ then-refused : {A B C : Type 0} {number place : ℕ} (x : Answer A) (f : A → A
 then-refused {B = B} {number = number} {place = place} (given a) f g e = go (f a) e
   where
     go : (y : Answer B) → y ≡ refused number place → andThen y (g a) ≡ refused number place
-    go (given b) e = let z : _≡_ {A = ℕ} 0 1 = cc in absurd (omega arith)
+    go (given b) e = never (cc)
     go (refused m q) e = cc
 then-refused (refused m q) f g e = cc
 
@@ -94,5 +95,5 @@ module _ (text : List ℕ) where
   listed-answer (board-later i b at later says) = rw (line-refused 10 i i at (λ e. absurd (omega arith)) (λ n e. rw says))
   listed-answer (empty none-there) = rw none-there
   listed-answer (many j at says) =
-      rw (line-refused 3 jobsMost 66 at (λ e. absurd (omega arith)) (λ n e. rw (says, le-ltb n jobsMost (omega arith))))
+      rw (line-refused 3 jobsMost lastLine at (λ e. absurd (omega arith)) (λ n e. rw (says, le-ltb n jobsMost (omega arith))))
   listed-answer (of-set input is few most listed) = rw is (listed-plan (input .board) (input .jobs) jobsMost slicesMost listed)

@@ -12,6 +12,7 @@ use Prim.Native.Nat.{ℕ, _+_, _-_, _*_, _≤_, _<_}
 use native.Mathlib.Omega.{arith}
 use lib.ListN.{length, take, drop, getD}
 use lib.Seq.{take-append-seam, drop-append-seam}
+use Rattle.rows.proofs.Lists.{all-at, pairs-at}
 use Rattle.model.specs.Board.{roomOf}
 use Rattle.model.specs.Empty.{noJob, noSlice}
 use Rattle.model.specs.Limits.{jobsMost, slicesMost}
@@ -23,26 +24,26 @@ use Rattle.model.specs.declared.Kind.{Kind}
 use Rattle.model.specs.declared.Kind.the-variants.{First, Second}
 use Rattle.model.specs.declared.Board.{Board}
 use Rattle.model.specs.declared.Job.{Job}
+use Rattle.model.specs.declared.Refusal.the-variants.{TooShort}
 use Rattle.model.specs.declared.Slice.{Slice}
-use Rattle.rows.proofs.Lists.{all-at, pairs-at}
 use Rattle.model.proofs.Splits.{all-done-length, all-done-at}
 use Rattle.legal.specs.Legal.{legalOf}
-use Rattle.slices.specs.Table.{tableOf}
 use Rattle.split.specs.Promise.{stretchedOn}
 use Rattle.split.specs.Shares.{sharesOf}
 use Rattle.split.proofs.Demands.{demands, exactly}
-use Rattle.text.specs.Hex.{Maybe, none, some}
-use Rattle.text.specs.Input.{Input, inputOf}
-use Rattle.text.specs.Output.{answerMost, Writes}
-use Rattle.text.specs.declared.Written.the-variants.{Bytes}
+use Rattle.slices.specs.Table.{tableOf}
 use Rattle.planner.specs.Plan.{Plan, countsIn}
 use Rattle.planner.specs.Promise.{GoodPlan}
 use Rattle.planner.proofs.Lent.{plan-room}
 use Rattle.planner.proofs.PlanLaws.{plan-shares, plan-kept}
+use Rattle.text.specs.Hex.{Maybe, none, some}
+use Rattle.text.specs.Input.{Input, inputOf}
+use Rattle.text.specs.Output.{answerMost, Writes}
+use Rattle.text.specs.declared.Written.the-variants.{Bytes}
 use Rattle.clampfern.specs.Answer.{planned, answerText, Entered, Answered}
-use Rattle.clampfern.specs.declared.AnswerLines.{AnswerLines}
 use Rattle.clampfern.specs.Listed.{TextListed, of-set}
 use Rattle.clampfern.specs.Said.{saidOf}
+use Rattle.clampfern.specs.declared.AnswerLines.{AnswerLines}
 use Rattle.clampfern.proofs.Answers.{SmallRefusal, text-listed-small, answerOf, answer-said, answer-listed, entry-cases, writes-put}
 use Rattle.clampfern.proofs.Causes.{listed-answer}
 use Rattle.clampfern.proofs.Size.{answer-size}
@@ -54,7 +55,7 @@ module _ {asked before after : List ℕ} {count : ℕ} (p : Entered asked before
   zero-exactly-short = ⊎-elim (λ short. (λ _. short .few, λ _. short .zero))
       (λ put. (λ zero. absurd (omega (arith, answer-size asked .0, put .all)), λ few. absurd (omega (arith, put .enough)))) (entry-cases p)
 
-  -- Lent bytes of the most that an answer has, 2,437, are always enough.
+  -- Lent bytes of the most that an answer has are always enough.
   pub most-always-enough : answerMost ≤ length before → 0 < count
   most-always-enough enough = ⊎-elim (λ short. absurd (omega (arith, short .few, answer-size asked .1)))
       (λ put. omega (arith, put .all, answer-size asked .0)) (entry-cases p)
@@ -70,7 +71,7 @@ module _ {asked before after : List ℕ} {count : ℕ} (p : Entered asked before
       (λ put. rw (put .front, put .all) (take-append-seam (answerText asked) _)) (entry-cases p)
 
 -- The same of `plan_text`, which gives a count only where the lines fit.
-pub text-answer : (asked : List ℕ) {before after : List ℕ} {count : ℕ} → Writes before after (answerText asked) (Bytes count)
+pub text-answer : (asked : List ℕ) {before after : List ℕ} {count : ℕ} → Writes TooShort before after (answerText asked) (Bytes count)
     → take count after ≡ answerText asked
 text-answer asked w = let put = writes-put (answerText asked) w in rw (put .1, put .0) (take-append-seam (answerText asked) _)
 
@@ -119,7 +120,7 @@ module _ (asked : List ℕ) {bytes : List ℕ} (answer : bytes ≡ answerText as
   pub refused-exactly : {number place : ℕ} → (saidOf bytes ≡ some (refused number place)) ↔ TextListed asked number place
   refused-exactly = (λ says. rw says at any-text-answered, λ listed. said ∙ rw (listed-answer asked listed))
 
-  -- The numbers of a refusal are 1 to 10 without 7, which a count of 0 stands for, and no place is above 66.
+  -- The numbers of a refusal are 1 to 10 without 7, which a count of 0 stands for, and no place is above the last line that is read, 66.
   pub refusal-small : {number place : ℕ} → saidOf bytes ≡ some (refused number place) → SmallRefusal number place
   refusal-small says = text-listed-small (refused-exactly .0 says)
 

@@ -4,6 +4,7 @@
 use mathlib.Core.List.{List}
 use mathlib.Core.Path.{_≡_}
 use Prim.Native.Nat.{ℕ}
+use Rattle.model.specs.declared.Refusal.the-variants.{TooShort}
 use Rattle.model.proofs.Determined.{Once}
 use Rattle.text.specs.Output.{Writes}
 use Rattle.text.specs.declared.Written.{Written}
@@ -12,8 +13,8 @@ use Rattle.clampfern.specs.Answer.{answerText, Entered, Answered}
 use Rattle.clampfern.specs.declared.AnswerLines.{AnswerLines}
 
 module _ (text before : List ℕ) where
-  pub plan-text-once : Once (λ (r : Written × List ℕ). Writes before (r .1) (answerText text) (r .0))
-  plan-text-once = writes-once before (answerText text)
+  pub plan-text-once : Once (λ (r : Written × List ℕ). Writes TooShort before (r .1) (answerText text) (r .0))
+  plan-text-once = writes-once TooShort before (answerText text)
 
   pub clampfern-plan-once : Once (λ (r : ℕ × List ℕ). Entered text before (r .1) (r .0))
   clampfern-plan-once r s p q =

@@ -3,11 +3,12 @@ use mathlib.Core.Path.{_≡_, sym, _∙_}
 use mathlib.Core.Bool.{Bool, true, false, cond}
 use mathlib.Core.List.{List, _++_}
 use Prim.Native.Nat.{ℕ, _≤_}
-use native.Mathlib.Omega.{arith}
 use borrow.Author.Tests.{le-ltb}
 use lib.Dec.{ltb}
 use lib.ListN.{length, drop}
+use Rattle.rows.proofs.Never.{never}
 use Rattle.model.specs.Refusal.{given, refused}
+use Rattle.model.specs.declared.Refusal.the-variants.{TooShort}
 use Rattle.text.specs.Output.{saysWritten, Writes}
 use Rattle.text.specs.declared.Written.{Written}
 use Rattle.text.specs.declared.Written.the-variants.{Bytes, Refused}
@@ -18,12 +19,12 @@ bytesOf (Bytes n) = n
 bytesOf (Refused r) = 0
 
 bytes-are : (r : Written) (t : Bool) (size : ℕ) → saysWritten r ≡ cond t (refused 7 0) (given size) → bytesOf r ≡ cond t 0 size
-bytes-are (Bytes n) true size e = let z : _≡_ {A = ℕ} 0 1 = cc in absurd (omega arith)
+bytes-are (Bytes n) true size e = never (cc)
 bytes-are (Bytes n) false size e = cc
 bytes-are (Refused r) true size e = cc
-bytes-are (Refused r) false size e = let z : _≡_ {A = ℕ} 0 1 = cc in absurd (omega arith)
+bytes-are (Refused r) false size e = never (cc)
 
-pub entered : {asked before after : List ℕ} (r : Written) {n : ℕ} → bytesOf r ≡ n → Writes before after (answerText asked) r → Entered asked before after n
+pub entered : {asked before after : List ℕ} (r : Written) {n : ℕ} → bytesOf r ≡ n → Writes TooShort before after (answerText asked) r → Entered asked before after n
 entered {asked} {before} r e w =
     record {
       count = sym e ∙ bytes-are r (ltb (length before) (length (answerText asked))) (length (answerText asked)) (w .says);

@@ -1,52 +1,46 @@
 -- The lines of a plan in columns are the plan's, and those of the plan of what was read are the answer to the text. Assumes nothing.
---   columnsText     the lines of the code's columns, or of its refusal
---   columns-planned, columns-refused   they are those of the plan of the set
+--   columns-planned, columns-refused   what the code's columns hold, or its refusal, is the plan of the set
 --   read-planned, read-refused   what was read from a text into full columns is answered as the text is
-use mathlib.Core.Path.{_≡_, refl, sym, ap, subst, _∙_}
+--   columns-place, read-place   the place of a refusal takes one byte
+use mathlib.Core.Path.{_≡_, refl, ap}
 use mathlib.Core.List.{List, map}
-use Prim.Native.Nat.{ℕ, zero, suc, _-_, min}
+use Prim.Native.Nat.{ℕ, zero, suc, _-_, _<_, min}
 use native.Mathlib.Numerals.{unary-clauses}
 use native.Mathlib.Omega.{arith}
 use borrow.Author.Tests.{le-ltb}
-use lib.ListN.{length, drop, replicate}
-use Rattle.model.specs.Columns.{jobsIn, sharesIn as sharesFrom}
+use lib.ListN.{length, drop, replicate, length-map}
+use Rattle.rows.specs.Lists.{front}
+use Rattle.rows.proofs.Never.{never}
+use Rattle.model.specs.Columns.{costOn, jobsIn, sharesIn as sharesFrom}
 use Rattle.model.specs.Terms.{seen}
 use Rattle.model.specs.Limits.{jobsMost, slicesMost}
 use Rattle.model.specs.Packed.{packOf, slicesIn as slicesFrom}
-use Rattle.model.specs.Refusal.{Answer, given, refused, andThen, numberOf, placeOf}
+use Rattle.model.specs.Refusal.{Answer, given, refused, saysRefusal, andThen, placeOf}
 use Rattle.model.specs.Split.{Ticks, ticksOn}
 use Rattle.model.specs.declared.Kind.the-variants.{First, Second}
 use Rattle.model.specs.declared.Board.{Board}
 use Rattle.model.specs.declared.Job.{Job}
 use Rattle.model.specs.declared.Refusal.{Refusal}
 use Rattle.model.proofs.Columns.{costs-back}
-use Rattle.slices.specs.Table.{tableOf}
 use Rattle.split.specs.Shares.{sharesOf}
 use Rattle.split.proofs.Seen.{shares-seen}
-use Rattle.text.specs.Input.{Input, Head, inputOf, inColumns, Gives, Reads}
-use Rattle.text.specs.Output.{planText, refusedText, refusalText, Writes}
-use Rattle.text.specs.declared.Reading.{Reading}
-use Rattle.text.specs.declared.Reading.the-variants.{Set, Refused as Unread}
-use Rattle.text.specs.declared.Written.{Written}
+use Rattle.slices.specs.Table.{tableOf}
 use Rattle.planner.specs.Plan.{Plan, Counts, fitted, planOf, columnsOf, sharesGiven as sharesIn, slicesGiven as slicesIn, countsIn, saysPlanned}
-use Rattle.rows.specs.Lists.{front}
 use Rattle.planner.specs.Promise.{Columned}
 use Rattle.planner.specs.declared.Planned.{Planned}
 use Rattle.planner.specs.declared.Planned.the-variants.{Plan as Counted, Refused}
+use Rattle.planner.proofs.Causes.{plan-listed}
 use Rattle.planner.proofs.ColumnFronts.{shares-front, slices-front}
+use Rattle.planner.proofs.Demands.{listed-small}
 use Rattle.planner.proofs.PlanLaws.{table-asks}
+use Rattle.text.specs.Input.{Input, Head, inputOf, inColumns, Gives, Reads}
+use Rattle.text.specs.Output.{planText}
+use Rattle.text.specs.declared.Reading.{Reading}
+use Rattle.text.specs.declared.Reading.the-variants.{Set, Refused as Unread}
 use Rattle.clampfern.specs.Answer.{planned, linesFor, answerText}
+use Rattle.clampfern.proofs.Answers.{text-listed-small}
 use Rattle.clampfern.proofs.Bounds.{small, narrow}
-
-never : {A : Type 0} → _≡_ {A = ℕ} 0 1 → A
-never z = absurd (omega arith)
-
-abbrev columnsText : Planned → (s1 s2 rows : List ℕ) → List ℕ
-columnsText (Counted jobs k) s1 s2 rows = planText (sharesFrom (min jobs jobsMost) s1 s2) (slicesFrom (min k slicesMost) rows)
-columnsText (Refused r) s1 s2 rows = refusalText r
-
-refusal-lines : (r : Refusal) {number place : ℕ} → numberOf r ≡ number → placeOf r ≡ place → refusalText r ≡ refusedText number place
-refusal-lines r e f = rw (e, f)
+use Rattle.clampfern.proofs.Refusals.{text-listed}
 
 module _ (board : Board) (js : List Job) where
   abbrev plan : Answer Plan
@@ -66,35 +60,43 @@ module _ (board : Board) (js : List Job) where
           rw (le-ltb jobsMost (length ss) (asks .few), le-ltb slicesMost (length (tableOf (board .window) ss)) (asks .rows))
       go (refused number place) is = refl
 
-  module _ (s1 s2 rows : List ℕ) {s1′ s2′ rows′ : List ℕ} where
-    lines : (r : Planned) (x : Answer Plan) → plan ≡ x → saysPlanned r ≡ countsIn x → s1′ ≡ front (map (ticksOn First) (sharesIn x)) s1
-        → s2′ ≡ front (map (ticksOn Second) (sharesIn x)) s2 → rows′ ≡ front (map packOf (slicesIn x)) rows → columnsText r s1′ s2′ rows′ ≡ linesFor x
-    lines (Counted jobs k) (given p) is says first second slices =
-        let counts : _≡_ {A = Counts} (record { jobs = jobs; slices = k }) (record { jobs = length (p .shares); slices = length (p .slices) }) = cc in
-        let within = small board js jobsMost slicesMost is in
-        let all-jobs : min jobs jobsMost ≡ length (p .shares) = omega (arith, ap (λ (c : Counts). c .jobs) counts, within .few-jobs) in
-        let all-rows : min k slicesMost ≡ length (p .slices) = omega (arith, ap (λ (c : Counts). c .slices) counts, within .few-slices) in
-        let ss-back : sharesFrom (min jobs jobsMost) s1′ s2′ ≡ p .shares = rw (all-jobs, first, second) (shares-front (p .shares) _ _) in
-        let rows-back : slicesFrom (min k slicesMost) rows′ ≡ p .slices = rw (all-rows, slices) (slices-front (p .slices) _ (narrow board js jobsMost slicesMost is)) in
-        rw (ss-back, rows-back)
-    lines (Counted jobs k) (refused number place) is says first second slices = never (cc)
-    lines (Refused r) (given p) is says first second slices = never (cc)
-    lines (Refused r) (refused number place) is says first second slices = refusal-lines r (cc) (cc)
-
   -- The code's columns, which are as long as every set asks.
   module _ {n : ℕ} (size : length js ≡ n) {s1 s2 rows s1′ s2′ rows′ : List ℕ} {r : Planned} (c : Columned board n js s1 s2 rows r s1′ s2′ rows′)
       (full1 : length s1 ≡ jobsMost) (full2 : length s2 ≡ jobsMost) (full : length rows ≡ slicesMost) where
-    columns-lines : columnsText r s1′ s2′ rows′ ≡ linesFor (planOf board n js jobsMost slicesMost)
-    columns-lines =
-        let same : columnsOf board n js (length s1) (length s2) (length rows) ≡ plan = rw (full1, full2, full, ← size) columns-plan in
-        rw size at (lines s1 s2 rows r plan refl (rw same at (c .says)) (rw same at (c .first)) (rw same at (c .second)) (rw same at (c .slices)))
+    same : columnsOf board n js (length s1) (length s2) (length rows) ≡ plan
+    same = rw (full1, full2, full, ← size) columns-plan
 
     pub columns-planned : {jobs k : ℕ} → r ≡ Counted jobs k
         → planText (sharesFrom (min jobs jobsMost) s1′ s2′) (slicesFrom (min k slicesMost) rows′) ≡ linesFor (planOf board n js jobsMost slicesMost)
-    columns-planned is = sym (ap (λ (p : Planned). columnsText p s1′ s2′ rows′) is) ∙ columns-lines
+    columns-planned {jobs} {k} is = rw (← size) (go plan refl (rw (is, same) at (c .says)) (rw same at (c .first)) (rw same at (c .second)) (rw same at (c .slices)))
+      where
+        go : (x : Answer Plan) → plan ≡ x → saysPlanned (Counted jobs k) ≡ countsIn x → s1′ ≡ front (map (ticksOn First) (sharesIn x)) s1
+            → s2′ ≡ front (map (ticksOn Second) (sharesIn x)) s2 → rows′ ≡ front (map packOf (slicesIn x)) rows
+            → planText (sharesFrom (min jobs jobsMost) s1′ s2′) (slicesFrom (min k slicesMost) rows′) ≡ linesFor x
+        go (given p) is says first second slices =
+            let counts : _≡_ {A = Counts} (record { jobs = jobs; slices = k }) (record { jobs = length (p .shares); slices = length (p .slices) }) = cc in
+            let within = small board js jobsMost slicesMost is in
+            let all-jobs : min jobs jobsMost ≡ length (p .shares) = omega (arith, ap (λ (c : Counts). c .jobs) counts, within .few-jobs) in
+            let all-rows : min k slicesMost ≡ length (p .slices) = omega (arith, ap (λ (c : Counts). c .slices) counts, within .few-slices) in
+            let ss-back : sharesFrom (min jobs jobsMost) s1′ s2′ ≡ p .shares = rw (all-jobs, first, second) (shares-front (p .shares) _ _) in
+            let rows-back : slicesFrom (min k slicesMost) rows′ ≡ p .slices = rw (all-rows, slices) (slices-front (p .slices) _ (narrow board js jobsMost slicesMost is)) in
+            rw (ss-back, rows-back)
+        go (refused number place) is says first second slices = never (cc)
 
-    pub columns-refused : {refusal : Refusal} → r ≡ Refused refusal → refusalText refusal ≡ linesFor (planOf board n js jobsMost slicesMost)
-    columns-refused is = sym (ap (λ (p : Planned). columnsText p s1′ s2′ rows′) is) ∙ columns-lines
+    module _ {refusal : Refusal} (is : r ≡ Refused refusal) where
+      plan-refused : plan ≡ saysRefusal refusal
+      plan-refused = go plan (rw (is, same) at (c .says))
+        where
+          go : (x : Answer Plan) → saysPlanned (Refused refusal) ≡ countsIn x → x ≡ saysRefusal refusal
+          go (given p) says = never (cc)
+          go (refused number place) says = cc
+
+      pub columns-refused : planOf board n js jobsMost slicesMost ≡ saysRefusal refusal
+      columns-refused = rw (← size) plan-refused
+
+      -- Its place is a job, or the count of all.
+      pub columns-place : placeOf refusal < 256
+      columns-place = omega (arith, listed-small (plan-listed board js jobsMost slicesMost _ _ plan-refused) .2)
 
 -- ---- what was read
 plan-seen : (board : Board) (n : ℕ) (js : List Job) (m k : ℕ) → planOf board n (map seen js) m k ≡ planOf board n js m k
@@ -118,16 +120,17 @@ module _ (text : List ℕ) {c1 c2 : List ℕ} {r : Reading} (reads : Reads text 
           → linesFor (planOf board n (jobsIn n c1 c2) jobsMost slicesMost) ≡ linesFor (andThen x planned)
       go (given input) g =
           let head : _≡_ {A = Head} (record { board = board; count = n }) (record { board = input .board; count = length (input .jobs) }) = cc in
-          rw (g .first, g .second, drop-replicate (length (input .jobs)) jobsMost 0, ap (λ (h : Head). h .board) head, ap (λ (h : Head). h .count) head, costs-back (input .jobs) (g .few), plan-seen (input .board) (length (input .jobs)) (input .jobs) jobsMost slicesMost)
+          rw (g .first, g .second, length-map (input .jobs) (costOn First), length-map (input .jobs) (costOn Second), drop-replicate (length (input .jobs)) jobsMost 0, ap (λ (h : Head). h .board) head, ap (λ (h : Head). h .count) head, costs-back (input .jobs) (g .few), plan-seen (input .board) (length (input .jobs)) (input .jobs) jobsMost slicesMost)
       go (refused number place) g = never (cc)
 
-  pub read-refused : (refusal : Refusal) → r ≡ Unread refusal → refusalText refusal ≡ answerText text
-  read-refused refusal is = go (inputOf text) reads
-    where
-      go : (x : Answer Input) → Gives x (inColumns x jobsMost jobsMost) zeros zeros r c1 c2 → refusalText refusal ≡ linesFor (andThen x planned)
-      go (given input) g = never (cc)
-      go (refused number place) g = refusal-lines refusal (cc) (cc)
+  module _ (refusal : Refusal) (is : r ≡ Unread refusal) where
+    pub read-refused : inputOf text ≡ saysRefusal refusal
+    read-refused = go (inputOf text) reads
+      where
+        go : (x : Answer Input) → Gives x (inColumns x jobsMost jobsMost) zeros zeros r c1 c2 → x ≡ saysRefusal refusal
+        go (given input) g = never (cc)
+        go (refused number place) g = cc
 
--- What was written, by another name for its lines.
-pub writes-as : {before after lines lines′ : List ℕ} {r : Written} → Writes before after lines r → lines ≡ lines′ → Writes before after lines′ r
-writes-as {before} {after} {r = r} w e = subst (λ (l : List ℕ). Writes before after l r) e w
+    -- Its place is a line that is read, or the count of all jobs.
+    pub read-place : placeOf refusal < 256
+    read-place = omega (arith, text-listed-small (text-listed text _ _ read-refused) .place-most)

@@ -1,17 +1,17 @@
--- The lines of a plan, read by the rules of the format, give its records back, and every number in them is whole: no count, start, length or share
--- is cut down to the bytes that it is written in. The bounds are those of an accepted plan. Assumes nothing.
+-- The lines of a plan, read by the rules of the format, give its records back: no count, start, length or share is too great for the bytes that it is
+-- written in. The bounds are those of an accepted plan. Assumes nothing.
 --   plan-records    the records of a plan are bytes
 --   plan-back       so they are what its lines say
---   plan-numbers    and the ticks of its shares and slices come back from their two bytes
 use mathlib.Core.Path.{_≡_}
 use mathlib.Core.List.{List, [], _∷_, map}
 use Prim.Native.Nat.{ℕ, _+_, _≤_, _<_}
 use native.Mathlib.Omega.{arith}
 use lib.ListN.{length}
-use Rattle.model.specs.Board.{on}
-use Rattle.model.specs.Limits.{windowMost}
 use Rattle.rows.specs.Lists.{All}
-use Rattle.rows.proofs.Lists.{all-map, all-append}
+use Rattle.rows.proofs.Lists.{all-append}
+use Rattle.model.specs.Packed.{kindNumber}
+use Rattle.model.specs.Terms.{Narrow}
+use Rattle.model.specs.Limits.{windowMost}
 use Rattle.model.specs.Refusal.{given}
 use Rattle.model.specs.Split.{Ticks}
 use Rattle.model.specs.declared.Kind.{Kind}
@@ -19,26 +19,27 @@ use Rattle.model.specs.declared.Kind.the-variants.{First, Second}
 use Rattle.model.specs.declared.Board.{Board}
 use Rattle.model.specs.declared.Job.{Job}
 use Rattle.model.specs.declared.Slice.{Slice}
-use Rattle.text.specs.Hex.{some, linesOf, bytesOf, two, numberIn}
-use Rattle.text.specs.Output.{shareRecords, sliceRecord, planRecords, planText}
-use Rattle.text.proofs.RoundTrip.{IsRecord, read-back, two-back}
 use Rattle.planner.specs.Plan.{Plan, planOf}
-use Rattle.clampfern.proofs.Bounds.{Small, small}
+use Rattle.text.specs.Hex.{some, linesOf, bytesOf}
+use Rattle.text.specs.Output.{shareRecords, sliceRecord, planRecords, planText}
+use Rattle.text.proofs.RoundTrip.{IsRecord, read-back}
+use Rattle.clampfern.proofs.Bounds.{Small, small, narrow}
 
-shares-records : (i : ℕ) (ss : List Ticks) → i + length ss ≤ 256 → All IsRecord (shareRecords i ss)
+shares-records : (i : ℕ) (ss : List Ticks) → i + length ss ≤ 256 → All (λ (s : Ticks). s .first + s .second ≤ windowMost) ss
+    → All IsRecord (shareRecords i ss)
 unfolding shareRecords
-shares-records i [] few = tt
-shares-records i (s ∷ ss) few = (omega arith, shares-records (i + 1) ss (omega arith))
+shares-records i [] few small = tt
+shares-records i (s ∷ ss) few small = (omega (arith, small .0), shares-records (i + 1) ss (omega arith) (small .1))
 
-kind-byte : (k : Kind) → on k 1 2 < 256
+kind-byte : (k : Kind) → kindNumber k < 256
 kind-byte First = omega arith
 kind-byte Second = omega arith
 
-slices-records : (rows : List Slice) → All (λ (s : Slice). (s .job < 256) × (s .core < 256)) rows → All IsRecord (map sliceRecord rows)
+slices-records : (rows : List Slice) → All Narrow rows → All IsRecord (map sliceRecord rows)
 slices-records [] small = tt
 slices-records (s ∷ rows) small =
-    let kind = kind-byte (s .kind) in
-    (omega arith, slices-records rows (small .1))
+    let n = small .0 in
+    (omega (arith, kind-byte (s .kind), n .job, n .core, n .start, n .length), slices-records rows (small .1))
 
 module _ (board : Board) (js : List Job) (m k : ℕ) {p : Plan} (is : planOf board (length js) js m k ≡ given p) where
   abbrev within : Small p
@@ -47,18 +48,9 @@ module _ (board : Board) (js : List Job) (m k : ℕ) {p : Plan} (is : planOf boa
   pub plan-records : All IsRecord (planRecords (p .shares) (p .slices))
   plan-records = (
     omega (arith, within .few-jobs, within .few-slices),
-    all-append IsRecord (shareRecords 0 (p .shares)) (map sliceRecord (p .slices)) (shares-records 0 (p .shares) (omega (arith, within .few-jobs)))
-        (slices-records (p .slices) (all-map (λ (s : Slice). (s .job < 64) × (s .core < 8) × (s .start + s .length ≤ windowMost)) _ (λ s h. omega arith) (p .slices) (within .each-slice))),
+    all-append IsRecord (shareRecords 0 (p .shares)) (map sliceRecord (p .slices)) (shares-records 0 (p .shares) (omega (arith, within .few-jobs)) (within .each-share))
+        (slices-records (p .slices) (narrow board js m k is)),
   )
 
   pub plan-back : map bytesOf (linesOf (planText (p .shares) (p .slices))) ≡ map (λ (r : List ℕ). some r) (planRecords (p .shares) (p .slices))
   plan-back = read-back (planRecords (p .shares) (p .slices)) plan-records
-
-  pub plan-numbers : All (λ (s : Ticks). (numberIn (two (s .first)) ≡ s .first) × (numberIn (two (s .second)) ≡ s .second)) (p .shares)
-      × All (λ (s : Slice). (numberIn (two (s .start)) ≡ s .start) × (numberIn (two (s .length)) ≡ s .length)) (p .slices)
-  plan-numbers = (
-    all-map (λ (s : Ticks). s .first + s .second ≤ windowMost) _
-        (λ s h. (two-back (s .first) (omega arith), two-back (s .second) (omega arith))) (p .shares) (within .each-share),
-    all-map (λ (s : Slice). (s .job < 64) × (s .core < 8) × (s .start + s .length ≤ windowMost)) _
-        (λ s h. (two-back (s .start) (omega arith), two-back (s .length) (omega arith))) (p .slices) (within .each-slice),
-  )

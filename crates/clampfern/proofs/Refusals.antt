@@ -13,6 +13,7 @@ use borrow.Author.Tests.{ltb-true, ltb-false}
 use lib.Dec.{ltb}
 use lib.ListN.{length, drop, length-drop}
 use lib.Seq.{drop-cons}
+use Rattle.rows.proofs.Never.{never}
 use Rattle.model.specs.Limits.{jobsMost, textMost}
 use Rattle.model.specs.Refusal.{Answer, given, refused, andThen}
 use Rattle.model.specs.declared.Board.{Board}
@@ -22,10 +23,7 @@ use Rattle.text.specs.Input.{Input, entryOf, recordSays, bytesSay, lineSays, as
 use Rattle.text.specs.declared.Entry.{Entry}
 use Rattle.text.specs.declared.Entry.the-variants.{OfBoard, OfJob}
 use Rattle.text.proofs.Lines.{linesOf-first}
-use Rattle.clampfern.specs.Listed.{lineAt, Good, board, job, Reached, TextListed, over, digits, unknown, job-first, board-later, empty, many}
-
-never : {A : Type 0} → _≡_ {A = ℕ} 0 1 → A
-never z = absurd (omega arith)
+use Rattle.clampfern.specs.Listed.{lineAt, lastLine, Good, board, job, Reached, TextListed, over, digits, unknown, job-first, board-later, empty, many}
 
 no-lines : (text : List ℕ) → linesOf text ≡ [] → text ≡ []
 no-lines [] e = refl
@@ -69,7 +67,7 @@ module _ (text : List ℕ) where
         go : (t : Bool) → ltb n jobsMost ≡ t → Told (cond t (given j) (refused 3 jobsMost))
         go true h = tt
         go false h =
-            let last : i ≡ 66 = omega (arith, ltb-false n jobsMost h) in
+            let last : i ≡ lastLine = omega (arith, ltb-false n jobsMost h) in
             many j (subst (λ (k : ℕ). Reached text k) last at) (subst (λ (k : ℕ). lineSays k (lineAt text k) ≡ given (OfJob j)) last says)
 
     job-good : (i n : ℕ) → i ≡ n + 2 → (e : Entry) → lineSays i (lineAt text i) ≡ given e → (j : Job) → asJob i n e ≡ given j → Good text i

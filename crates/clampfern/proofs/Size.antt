@@ -1,5 +1,5 @@
 -- The size of an answer: the line of a refusal at least, and at most the lines of a plan of as many jobs and slices as there can be. Assumes nothing.
---   answer-size     every answer has 7 to answerMost bytes
+--   answer-size     every answer has those of a refusal's line to answerMost bytes
 --   least-answered, most-answered   and both are reached: by the empty text, and by the set of 94 slices
 --   answer-most     as a number
 use mathlib.Core.Path.{_≡_, refl}
@@ -10,18 +10,19 @@ use lib.ListN.{length, replicate}
 use Rattle.model.specs.Limits.{jobsMost, slicesMost}
 use Rattle.model.specs.Refusal.{Answer, given, refused, andThen}
 use Rattle.model.proofs.Splits.{all-done-length}
-use Rattle.text.specs.Hex.{linesOf, nibbleOf, pairsOf, bytesOf, digitsOf, textOf, numberFrom}
-use Rattle.text.specs.Input.{Input, jobIn, entryOf, jobsFrom, inputFrom, inputOf}
-use Rattle.text.specs.Output.{answerMost}
-use Rattle.text.proofs.PlanText.{plan-length}
 use Rattle.planner.proofs.Examples.{board, jobs, most-slices}
 use Rattle.planner.specs.Plan.{Plan, planOf, slicesGiven as slicesIn}
 use Rattle.planner.proofs.PlanLaws.{plan-kept}
+use Rattle.text.specs.Hex.{linesOf, nibbleOf, pairsOf, bytesOf, digitsOf, textOf, numberFrom}
+use Rattle.text.specs.Input.{Input, jobIn, entryOf, jobsFrom, inputFrom, inputOf}
+use Rattle.text.specs.Records.{refusalForm, lineSize}
+use Rattle.text.specs.Output.{answerMost}
+use Rattle.text.proofs.PlanText.{plan-length}
 use Rattle.clampfern.specs.Answer.{planned, linesFor, answerText}
 use Rattle.clampfern.proofs.Bounds.{small}
 
-abbrev Sized : List ℕ → Type 0
-Sized lines = (7 ≤ length lines) × (length lines ≤ answerMost)
+abbrev pub Sized : List ℕ → Type 0
+Sized lines = (lineSize refusalForm ≤ length lines) × (length lines ≤ answerMost)
 
 refused-size : (number place : ℕ) → Sized (linesFor (refused number place))
 unfolding digitsOf textOf
@@ -34,7 +35,7 @@ plan-size input (given p) is =
     (omega (arith, size), omega (arith, size, within .few-jobs, within .few-slices))
 plan-size input (refused number place) is = refused-size number place
 
-pub answer-size : (text : List ℕ) → (7 ≤ length (answerText text)) × (length (answerText text) ≤ answerMost)
+pub answer-size : (text : List ℕ) → Sized (answerText text)
 answer-size text = go (inputOf text) where
   go : (x : Answer Input) → Sized (linesFor (andThen x planned))
   go (given input) = plan-size input (planned input) refl
@@ -59,7 +60,7 @@ most-answered = rw asked-read (go (planOf board jobsMost jobs jobsMost slicesMos
       plan-length (p .shares) (p .slices) jobsMost slicesMost (all-done-length (board .window) 1 jobs (p .shares) (plan-kept board jobsMost jobs jobsMost slicesMost is .whole .done)) most
   go (refused number place) is most = absurd (omega arith)
 
-pub least-answered : length (answerText []) ≡ 7
+pub least-answered : length (answerText []) ≡ lineSize refusalForm
 unfolding linesOf digitsOf textOf inputFrom inputOf
 least-answered = refl
 

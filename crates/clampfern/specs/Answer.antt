@@ -1,4 +1,4 @@
--- From text to text: what the program `plan` and the C entry answer.
+-- From text to text: what the program `plan` and the C entry answer. docs/SPEC.md, "The text".
 --   planned      the plan of a text's set, on tables that are long enough for any
 --   linesFor     the lines of a plan, or of its refusal
 --   answerText   the answer to a text: its plan's lines, or one line with the first refusal
@@ -13,9 +13,9 @@ use lib.Dec.{ltb}
 use lib.ListN.{length, replicate}
 use Rattle.model.specs.Limits.{jobsMost, slicesMost}
 use Rattle.model.specs.Refusal.{Answer, given, refused, andThen}
+use Rattle.planner.specs.Plan.{Plan, planOf}
 use Rattle.text.specs.Input.{Input, inputOf}
 use Rattle.text.specs.Output.{planText, refusedText, written, answerMost}
-use Rattle.planner.specs.Plan.{Plan, planOf}
 use Rattle.clampfern.specs.declared.AnswerLines.{AnswerLines}
 
 abbrev pub planned : Input → Answer Plan

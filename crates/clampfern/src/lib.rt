@@ -1,12 +1,15 @@
 // The planner from text to text, and its C entry: the library that users link (include/clampfern.h).
-ghost use mathlib.Core.Path.{_≡_};
+ghost use Prim.Native.Nat.{_<_};
 ghost use Rattle.model.specs.Columns.{jobsIn};
 ghost use Rattle.model.specs.Limits.{jobsMost, slicesMost};
-ghost use Rattle.text.specs.Output.{Writes};
+ghost use Rattle.model.specs.Refusal.{numberOf, placeOf};
+ghost use Rattle.model.specs.declared.Refusal.the-variants.{TooShort};
 ghost use Rattle.planner.specs.Plan.{planOf};
+ghost use Rattle.text.specs.Output.{refusedText, Writes};
 ghost use Rattle.clampfern.specs.Answer.{linesFor, answerText, Entered, Answered};
 use model::Board;
 use model::JOBS_MOST;
+use model::Refusal;
 use model::SLICES_MOST;
 use planner::Planned;
 use text::ANSWER_MOST;
@@ -19,6 +22,14 @@ pub struct AnswerLines {
     pub size: usize,
 }
 
+// The line of a refusal, which has one byte for the place. Here a place is a line of a text, 66 at most, or a job of a set, so it always fits.
+fn write_refused(refusal: Refusal, out: &mut [u8]) -> Written
+    requires { ⌜ placeOf refusal < 256 ⌝ }
+    ensures { λ r. ⌜ Writes TooShort (now (out .entry)) (now (out .exit)) (refusedText (numberOf refusal) (placeOf refusal)) r ⌝ }
+{
+    text::write_refusal(model::number(refusal), model::place(refusal) as u8, out)
+}
+
 // The lines of the plan of a set in columns, or of its refusal. The plan's own columns are long enough for every set.
 fn answer_in(
     board: Board,
@@ -27,7 +38,7 @@ fn answer_in(
     n: usize,
     out: &mut [u8],
 ) -> Written
-    ensures { λ r. ⌜ Writes (now (out .entry)) (now (out .exit)) (linesFor (planOf board n (jobsIn n (now (first .entry)) (now (second .entry))) jobsMost slicesMost)) r ⌝ }
+    ensures { λ r. ⌜ Writes TooShort (now (out .entry)) (now (out .exit)) (linesFor (planOf board n (jobsIn n (now (first .entry)) (now (second .entry))) jobsMost slicesMost)) r ⌝ }
 {
     let mut shares1 = [0u16; JOBS_MOST];
     let mut shares2 = [0u16; JOBS_MOST];
@@ -42,7 +53,7 @@ fn answer_in(
         &mut slices,
     );
     match planned {
-        Planned::Refused(refusal) => text::write_refusal(refusal, out),
+        Planned::Refused(refusal) => write_refused(refusal, out),
         Planned::Plan(jobs, rows) => {
             text::write_plan(&shares1, &shares2, jobs, &slices, rows, out)
         }
@@ -51,12 +62,12 @@ fn answer_in(
 
 // The answer to a text, into a lent text: the lines of its plan, or the line of its refusal.
 pub fn plan_text(text: &[u8], out: &mut [u8]) -> Written
-    ensures { λ r. ⌜ Writes (now (out .entry)) (now (out .exit)) (answerText (now (text .entry))) r ⌝ }
+    ensures { λ r. ⌜ Writes TooShort (now (out .entry)) (now (out .exit)) (answerText (now (text .entry))) r ⌝ }
 {
     let mut first = [0u32; JOBS_MOST];
     let mut second = [0u32; JOBS_MOST];
     match text::read(text, &mut first, &mut second) {
-        Reading::Refused(refusal) => text::write_refusal(refusal, out),
+        Reading::Refused(refusal) => write_refused(refusal, out),
         Reading::Set(board, n) => answer_in(board, &first, &second, n, out),
     }
 }

@@ -2,8 +2,7 @@
 use mathlib.Core.Path.{_≡_, refl}
 use Prim.Native.Nat.{ℕ, _+_, _*_, _/_, _%_, _<_}
 use native.Mathlib.Omega.{arith}
-use Rattle.model.specs.Board.{on}
-use Rattle.model.specs.Packed.{packOf, kindOf, sliceIn}
+use Rattle.model.specs.Packed.{kindNumber, packOf, kindOf, sliceIn}
 use Rattle.model.specs.Terms.{Narrow}
 use Rattle.model.specs.declared.Kind.{Kind}
 use Rattle.model.specs.declared.Kind.the-variants.{First, Second}
@@ -31,6 +30,6 @@ pub packed-back : (s : Slice) → Narrow s → sliceIn (packOf s) ≡ s
 unfolding packOf
 packed-back s n = go (s .kind) refl
   where
-    go : (k : Kind) → s .kind ≡ k → sliceIn (s .job + 256 * on k 1 2 + 65536 * s .core + 16777216 * s .start + 1099511627776 * s .length) ≡ s
+    go : (k : Kind) → s .kind ≡ k → sliceIn (s .job + 256 * kindNumber k + 65536 * s .core + 16777216 * s .start + 1099511627776 * s .length) ≡ s
     go First e = digits s n 1 (omega arith) (rw e)
     go Second e = digits s n 2 (omega arith) (rw e)

@@ -22,3 +22,5 @@ pub mod Walk
 pub mod Fields
 -- Tables of records that are lent: a loop's count, arrays in locals, loans, and the walk by hand of a loop over one.
 pub mod Lent
+-- What two different constructors prove that are said to be one: anything.
+pub mod Never

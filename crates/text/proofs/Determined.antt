@@ -10,9 +10,10 @@ use Rattle.model.specs.Limits.{jobsMost, slicesMost}
 use Rattle.model.specs.Packed.{slicesIn}
 use Rattle.model.specs.Refusal.{Answer}
 use Rattle.model.specs.declared.Refusal.{Refusal}
+use Rattle.model.specs.declared.Refusal.the-variants.{TooShort}
 use Rattle.model.proofs.Determined.{Once, said-once, refusal-back, answerOf}
 use Rattle.text.specs.Input.{Head, saysReading, Reads}
-use Rattle.text.specs.Output.{planText, refusalText, saysWritten, Writes}
+use Rattle.text.specs.Output.{planText, refusedText, saysWritten, Writes}
 use Rattle.text.specs.declared.Reading.{Reading}
 use Rattle.text.specs.declared.Reading.the-variants.{Set, Refused}
 use Rattle.text.specs.declared.Written.{Written}
@@ -42,15 +43,15 @@ written-back (Bytes n) = refl
 written-back (NotWritten r) = ap NotWritten (refusal-back r)
 
 -- Lines that are written to a lent text: the answer, and the text after the call.
-pub writes-once : (before lines : List ℕ) → Once (λ (r : Written × List ℕ). Writes before (r .1) lines (r .0))
-writes-once before lines r s p q =
+pub writes-once : (short : Refusal) (before lines : List ℕ) → Once (λ (r : Written × List ℕ). Writes short before (r .1) lines (r .0))
+writes-once short before lines r s p q =
     let answer : r .0 ≡ s .0 = said-once saysWritten writtenOf written-back _ (r .0) (s .0) (p .says) (q .says) in
     let text : r .1 ≡ s .1 = cc in
     λ i. (answer i, text i)
 
 pub write-plan-once : (first second : List ℕ) (n : ℕ) (slices : List ℕ) (k : ℕ) (before : List ℕ)
-    → Once (λ (r : Written × List ℕ). Writes before (r .1) (planText (sharesIn (min n jobsMost) first second) (slicesIn (min k slicesMost) slices)) (r .0))
-write-plan-once first second n slices k before = writes-once before (planText (sharesIn (min n jobsMost) first second) (slicesIn (min k slicesMost) slices))
+    → Once (λ (r : Written × List ℕ). Writes TooShort before (r .1) (planText (sharesIn (min n jobsMost) first second) (slicesIn (min k slicesMost) slices)) (r .0))
+write-plan-once first second n slices k before = writes-once TooShort before (planText (sharesIn (min n jobsMost) first second) (slicesIn (min k slicesMost) slices))
 
-pub write-refusal-once : (refusal : Refusal) (before : List ℕ) → Once (λ (r : Written × List ℕ). Writes before (r .1) (refusalText refusal) (r .0))
-write-refusal-once refusal before = writes-once before (refusalText refusal)
+pub write-refusal-once : (number place : ℕ) (before : List ℕ) → Once (λ (r : Written × List ℕ). Writes TooShort before (r .1) (refusedText number place) (r .0))
+write-refusal-once number place before = writes-once TooShort before (refusedText number place)

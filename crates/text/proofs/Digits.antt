@@ -3,7 +3,7 @@
 use mathlib.Core.Bool.{Bool, true, false, cond, _&&_}
 use mathlib.Core.List.{List, [], _∷_}
 use mathlib.Core.Path.{_≡_, refl, sym, ap, _∙_}
-use Prim.Native.Nat.{ℕ, zero, suc, _+_, _-_, _*_, _%_, _≤_, _<_}
+use Prim.Native.Nat.{ℕ, zero, suc, _+_, _-_, _*_, _/_, _%_, _≤_, _<_}
 use native.Mathlib.Omega.{arith}
 use native.Mathlib.Numerals.{add-one}
 use borrow.Author.Tests.{leb-true, eqb-true}
@@ -11,6 +11,7 @@ use lib.Dec.{leb, eqb}
 use lib.ListN.{length, take, drop, getD, length-append, take-append-drop, drop-of-length-le}
 use lib.Seq.{drop-cons, drop-drop, length-take-le}
 use Rattle.rows.specs.Lists.{All}
+use Rattle.rows.proofs.Never.{never}
 use Rattle.text.specs.Hex.{Maybe, none, some, nibbleOf, byteOf, atFront, pairsOf, bytesOf, numberFrom, numberIn}
 use Rattle.text.specs.Reader.{lineLength, lineIn, isThere, valueOf, digitThen, digitsIn, hexFrom, hexIn, isEnd, Spells, Numbered, HoldsRecord}
 use Rattle.text.specs.declared.reader.Numbers.{Numbers}
@@ -24,14 +25,14 @@ nibbleOf-small b x = go (leb 48 b && leb b 57) (leb 97 b && leb b 102) (leb 65 b
   where
     second : (t : Bool) (n : ℕ) → t && leb b n ≡ true → b ≤ n
     second true n h = leb-true b n h
-    second false n h = let z : _≡_ {A = ℕ} 0 1 = cc in omega arith
+    second false n h = never (cc)
 
     go : (p q r : Bool) → (p ≡ true → b ≤ 57) → (q ≡ true → b ≤ 102) → (r ≡ true → b ≤ 70)
         → cond p (some (b - 48)) (cond q (some (b - 87)) (cond r (some (b - 55)) none)) ≡ some x → x ≤ 15
     go true q r hp hq hr e = let z : b - 48 ≡ x = cc in omega (arith, hp refl)
     go false true r hp hq hr e = let z : b - 87 ≡ x = cc in omega (arith, hq refl)
     go false false true hp hq hr e = let z : b - 55 ≡ x = cc in omega (arith, hr refl)
-    go false false false hp hq hr e = let z : _≡_ {A = ℕ} 0 1 = cc in omega arith
+    go false false false hp hq hr e = never (cc)
 
 -- ---- the digits that a text begins with
 -- Behind some of them stand the others.
@@ -152,7 +153,7 @@ digits-end (b ∷ bs) = go (digits-end bs) (eqb b 10) refl (nibbleOf b) refl
     go : isEnd (drop (length (digitsIn bs)) bs) ≡ isWhole (lineIn bs) → (t : Bool) → eqb b 10 ≡ t → (d : Maybe ℕ) → nibbleOf b ≡ d
         → isEnd (drop (length (digitThen d (digitsIn bs))) (b ∷ bs)) ≡ isWhole (take (cond t 0 (suc (lineLength bs))) (b ∷ bs))
     go deep true e none f = e
-    go deep true e (some x) f = absurd (let z : _≡_ {A = ℕ} 0 1 = cc (feed-none b e) in omega arith)
+    go deep true e (some x) f = never (cc (feed-none b e))
     go deep false e none f = rw f e
     go deep false e (some x) f = rw f deep
 
@@ -162,7 +163,7 @@ whole-length [] e = refl
 whole-length (b ∷ l) e = go (whole-length l) (nibbleOf b) e
   where
     go : (isWhole l ≡ true → length (digitsIn l) ≡ length l) → (d : Maybe ℕ) → isThere d && isWhole l ≡ true → length (digitThen d (digitsIn l)) ≡ suc (length l)
-    go deep none e = absurd (let z : _≡_ {A = ℕ} 0 1 = cc in omega arith)
+    go deep none e = never (cc)
     go deep (some x) e = ap suc (deep e)
 
 -- Pairs of digits, each a byte. An odd digit is none.
@@ -260,12 +261,12 @@ data Paired : List ℕ → List ℕ → Type 0 where
 paired-is : (ds : List ℕ) → All (λ (d : ℕ). d ≤ 15) ds → isThere (paired ds) ≡ true → Paired ds (orEmpty (paired ds))
 unfolding paired
 paired-is [] small e = end
-paired-is (h ∷ []) small e = absurd (let z : _≡_ {A = ℕ} 0 1 = cc in omega arith)
+paired-is (h ∷ []) small e = never (cc)
 paired-is (h ∷ l ∷ ds) small e = go (paired ds) (paired-is ds (small .1 .1)) e
   where
     go : (p : Maybe (List ℕ)) → (isThere p ≡ true → Paired ds (orEmpty p)) → isThere (atFront (some (16 * h + l)) p) ≡ true
         → Paired (h ∷ l ∷ ds) (orEmpty (atFront (some (16 * h + l)) p))
-    go none deep e = absurd (let z : _≡_ {A = ℕ} 0 1 = cc in omega arith)
+    go none deep e = never (cc)
     go (some bs) deep e = pair h l (small .0) (small .1 .0) (deep refl)
 
 paired-length : {ds bs : List ℕ} → Paired ds bs → length ds ≡ length bs + length bs
@@ -307,18 +308,18 @@ module _ (bs : List ℕ) (there : isThere (bytesOf (lineIn bs)) ≡ true) where
     where
       go : (t : Bool) → isWhole (lineIn bs) ≡ t → isThere (whole t (pairedSome (digitsIn bs))) ≡ true → lineLength bs ≡ length (digitsIn bs)
       go true e h = sym (length-take-le (lineLength bs) bs (lineLength-fits bs)) ∙ sym (whole-length (lineIn bs) e) ∙ ap length (digits-line bs)
-      go false e h = absurd (let z : _≡_ {A = ℕ} 0 1 = cc in omega arith)
+      go false e h = never (cc)
 
   record-paired : Paired (digitsIn bs) (recordIn (lineIn bs))
   unfolding paired
   record-paired = rw (bytes-digits bs) (go (isEnd (drop (length (digitsIn bs)) bs)) (digitsIn bs) (digits-small bs) (rw (bytes-digits bs) at there))
     where
       go : (t : Bool) (ds : List ℕ) → All (λ (d : ℕ). d ≤ 15) ds → isThere (whole t (pairedSome ds)) ≡ true → Paired ds (orEmpty (whole t (pairedSome ds)))
-      go false ds small h = absurd (let z : _≡_ {A = ℕ} 0 1 = cc in omega arith)
-      go true [] small h = absurd (let z : _≡_ {A = ℕ} 0 1 = cc in omega arith)
+      go false ds small h = never (cc)
+      go true [] small h = never (cc)
       go true (d ∷ ds) small h = paired-is (d ∷ ds) small h
 
-  pub numbers-hold : (from : ℕ) (line : Numbers) → Numbered (digitsIn bs) from line → HoldsRecord (recordIn (lineIn bs)) (line .end - from) line
+  pub numbers-hold : (from : ℕ) (line : Numbers) → Numbered (digitsIn bs) from line → HoldsRecord (recordIn (lineIn bs)) ((line .end - from) / 2) line
   numbers-hold from line n =
       let p = record-paired in
       record {

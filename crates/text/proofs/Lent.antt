@@ -10,9 +10,11 @@ use Prim.Native.Nat.{ℕ, _≤_}
 use native.Mathlib.Omega.{arith}
 use borrow.Author.Tests.{ltb-false}
 use lib.Dec.{ltb}
-use lib.ListN.{length, drop}
-use Rattle.model.specs.Columns.{costOn, costs}
+use lib.ListN.{length, drop, length-map}
+use Rattle.rows.specs.Lists.{front}
 use Rattle.rows.specs.Upto.{upto, at}
+use Rattle.rows.proofs.Never.{never}
+use Rattle.model.specs.Columns.{costOn, costs}
 use Rattle.model.specs.Limits.{jobsMost}
 use Rattle.model.specs.Refusal.{Answer, given, saysRefusal}
 use Rattle.model.specs.declared.Board.{Board}
@@ -21,7 +23,7 @@ use Rattle.model.specs.declared.Kind.{Kind}
 use Rattle.model.specs.declared.Kind.the-variants.{First, Second}
 use Rattle.model.specs.declared.Refusal.{Refusal}
 use Rattle.model.specs.declared.Refusal.the-variants.{TooShort}
-use Rattle.text.specs.Input.{Input, short, front}
+use Rattle.text.specs.Input.{Input, short}
 use Rattle.text.specs.Reader.{GivesIn}
 use Rattle.text.specs.declared.Reading.{Reading}
 use Rattle.text.specs.declared.Reading.the-variants.{Set, Refused}
@@ -31,8 +33,8 @@ enough m1 m2 e = go (ltb m1 jobsMost) (ltb m2 jobsMost) refl refl e
   where
     go : (a b : Bool) → ltb m1 jobsMost ≡ a → ltb m2 jobsMost ≡ b → (a || b) ≡ false → (jobsMost ≤ m1) × (jobsMost ≤ m2)
     go false false a b e = (ltb-false _ _ a, ltb-false _ _ b)
-    go true q a b e = absurd (let z : _≡_ {A = ℕ} 0 1 = cc in omega arith)
-    go false true a b e = absurd (let z : _≡_ {A = ℕ} 0 1 = cc in omega arith)
+    go true q a b e = never (cc)
+    go false true a b e = never (cc)
 
 pub gives-as : {a b : Answer Input} {c1 c2 c1′ c2′ : List ℕ} {r : Reading} → GivesIn a c1 c2 r c1′ c2′ → b ≡ a → GivesIn b c1 c2 r c1′ c2′
 gives-as {c1 = c1} {c2} {c1′} {c2′} {r} g e = subst (λ (x : Answer Input). GivesIn x c1 c2 r c1′ c2′) (sym e) g
@@ -50,8 +52,8 @@ module _ (board : Board) (js : List Job) {n : ℕ} (size : length js ≡ n) (few
   pub gives-short : short (length c1) (length c2) ≡ true → GivesIn set c1 c2 (Refused TooShort) c1 c2
   gives-short e = rw e (record { says = refl; few = omega arith; first = refl; second = refl })
 
-  copied : (k : Kind) (c : List ℕ) {c′ cs : List ℕ} → cs ≡ costs k js → c′ ≡ upto n (λ i. at cs i) ++ drop n c → c′ ≡ front k js c
-  copied k c is put = put ∙ rw (is, ← size) (ap (λ (l : List ℕ). l ++ drop (length js) c) (go js _))
+  copied : (k : Kind) (c : List ℕ) {c′ cs : List ℕ} → cs ≡ costs k js → c′ ≡ upto n (λ i. at cs i) ++ drop n c → c′ ≡ front (map (costOn k) js) c
+  copied k c is put = put ∙ rw (is, ← size, length-map js (costOn k)) (ap (λ (l : List ℕ). l ++ drop (length js) c) (go js _))
     where
       go : (is : List Job) (l : List ℕ) → upto (length is) (λ i. at (map (costOn k) is ++ l) i) ≡ map (costOn k) is
       go [] l = refl

@@ -1,9 +1,20 @@
+-- The proof that a function meets its contract is in the folder of its name, below that of its file. These are what such proofs cite, in reading order,
+-- and the theorems that stand beside the promises.
+--
+-- The lines of a text, one by one.
 pub mod Lines
-pub mod Digits
-pub mod Records
-pub mod LineByLine
-pub mod Stores
+-- The digits of a line and the bytes that they spell; what the record of those bytes says.
+mod Digits
+mod Entries
+-- The reader's loop over the lines of jobs, and the columns that it fills.
+mod LineByLine
+mod Lent
+-- Bytes that are stored one behind the other; the text of a plan, which is stored so.
+mod Stores
 pub mod PlanText
+-- What is written is read back: what a text was written from. No promise needs it; clampfern's page of demands does.
 pub mod RoundTrip
-pub mod Lent
+-- Each promise allows one result alone. No promise needs it.
 pub mod Determined
+-- The whole example, and texts that are refused, worked out. No promise needs them.
+mod Examples

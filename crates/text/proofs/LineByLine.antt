@@ -9,6 +9,7 @@ use borrow.Author.Tests.{ltb-true}
 use lib.Dec.{ltb}
 use lib.ListN.{length, drop, set, replicate, length-append, drop-of-length-le}
 use lib.Seq.{set-at}
+use Rattle.rows.proofs.Never.{never}
 use Rattle.model.specs.Columns.{costOn, costs}
 use Rattle.model.specs.Limits.{jobsMost}
 use Rattle.model.specs.Refusal.{Answer, given, refused, andThen}
@@ -20,7 +21,7 @@ use Rattle.text.specs.Input.{lineSays, asJob, jobsFrom}
 use Rattle.text.specs.Reader.{isThere, Costs, costsSaid}
 use Rattle.text.specs.declared.Entry.{Entry}
 use Rattle.text.specs.declared.Entry.the-variants.{OfBoard, OfJob}
-use Rattle.text.proofs.Records.{given-there}
+use Rattle.text.proofs.Entries.{given-there}
 
 -- Jobs behind others.
 abbrev onto : List Job → Answer (List Job) → Answer (List Job)
@@ -49,13 +50,13 @@ jobsFrom-line i n line lines = andThen-assoc (lineSays i line) (asJob i n) _
 
 -- A line that holds a job is not one too many.
 jobSays-few : (i n : ℕ) (a : Answer Entry) (j : Job) → given j ≡ andThen a (asJob i n) → n < jobsMost
-jobSays-few i n (given (OfBoard b)) j e = let z : _≡_ {A = ℕ} 0 1 = cc in omega arith
+jobSays-few i n (given (OfBoard b)) j e = never (cc)
 jobSays-few i n (given (OfJob k)) j e = go (ltb n jobsMost) refl e
   where
     go : (t : Bool) → ltb n jobsMost ≡ t → given j ≡ cond t (given k) (refused 3 jobsMost) → n < jobsMost
     go true f e = ltb-true n jobsMost f
-    go false f e = let z : _≡_ {A = ℕ} 0 1 = cc in omega arith
-jobSays-few i n (refused k p) j e = let z : _≡_ {A = ℕ} 0 1 = cc in omega arith
+    go false f e = never (cc)
+jobSays-few i n (refused k p) j e = never (cc)
 
 -- The column of a kind with one job more.
 costs-more : (k : Kind) (js : List Job) (j : Job) (n : ℕ) {c : List ℕ} {x : ℕ} → length js ≡ n → n < jobsMost → c ≡ costs k js → x ≡ costOn k j → set c n x ≡ costs k (js ++ (j ∷ []))
@@ -80,11 +81,11 @@ pub record Held (c1 c2 : ℕ) (a : Answer Job) : Type 0 where
 
 pub held : (c1 c2 : ℕ) (a : Answer Job) → given (record { first = c1; second = c2 }) ≡ costsSaid a → Held c1 c2 a
 held c1 c2 (given j) e = let f : _≡_ {A = Costs} (record { first = c1; second = c2 }) (record { first = costOn First j; second = costOn Second j }) = cc in record { job = j; is = refl; first = ap (λ (c : Costs). c .first) f; second = ap (λ (c : Costs). c .second) f }
-held c1 c2 (refused k p) e = absurd (let z : _≡_ {A = ℕ} 0 1 = cc in omega arith)
+held c1 c2 (refused k p) e = never (cc)
 
 -- An answer that is refused has no row of costs.
 pub not-held : (k p : ℕ) (a : Answer Job) → refused k p ≡ costsSaid a → a ≡ refused k p
-not-held k p (given j) e = absurd (let z : _≡_ {A = ℕ} 0 1 = cc in omega arith)
+not-held k p (given j) e = never (cc)
 not-held k p (refused l q) e = cc
 
 -- What holds at every turn: n jobs were read from the lines before `at`, and their costs are in the columns.

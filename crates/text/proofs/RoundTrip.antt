@@ -3,13 +3,13 @@
 use mathlib.Core.Bool.{Bool, true, false, cond}
 use mathlib.Core.Path.{_≡_, refl, ap}
 use mathlib.Core.List.{List, [], _∷_, _++_, map}
-use Prim.Native.Nat.{ℕ, _+_, _/_, _%_, _≤_, _<_}
+use Prim.Native.Nat.{ℕ, zero, suc, _+_, _*_, _/_, _%_, _≤_, _<_}
 use native.Mathlib.Omega.{arith}
 use borrow.Author.Tests.{ltb-true, ltb-false, le-leb, lt-leb, ne-eqb}
 use lib.Dec.{ltb, eqb}
 use lib.ListN.{length}
 use Rattle.rows.specs.Lists.{All}
-use Rattle.text.specs.Hex.{some, linesOf, nibbleOf, pairsOf, bytesOf, glyphOf, digitsOf, lineOf, textOf, two, numberFrom, numberIn}
+use Rattle.text.specs.Hex.{some, linesOf, nibbleOf, pairsOf, bytesOf, glyphOf, digitsOf, lineOf, textOf, inBytes, numberFrom, numberIn}
 
 -- A record is some bytes.
 abbrev pub IsRecord : List ℕ → Type 0
@@ -61,6 +61,13 @@ read-back rs are = rw (lines-back rs) (go rs are) where
   go [] are = refl
   go (q ∷ qs) are = rw (bytes-back q (are .0), go qs (are .1))
 
-pub two-back : (x : ℕ) → x < 65536 → numberIn (two x) ≡ x
+-- A number in bytes is the number that they spell.
+numberFrom-append : (n : ℕ) (bs cs : List ℕ) → numberFrom n (bs ++ cs) ≡ numberFrom (numberFrom n bs) cs
 unfolding numberFrom
-two-back x small = omega arith
+numberFrom-append n [] cs = refl
+numberFrom-append n (b ∷ bs) cs = numberFrom-append (256 * n + b) bs cs
+
+pub inBytes-back : (w x : ℕ) → numberIn (inBytes (suc w) x) ≡ x
+unfolding numberFrom
+inBytes-back zero x = omega arith
+inBytes-back (suc w) x = rw (numberFrom-append 0 (inBytes (suc w) (x / 256)) (x % 256 ∷ []), inBytes-back w (x / 256)) (omega arith)

@@ -4,12 +4,12 @@ use mathlib.Core.Path.{_≡_, sym, _∙_}
 use mathlib.Core.List.{List, [], _∷_, _++_}
 use Prim.Native.Nat.{ℕ, suc, _+_, _≤_, _<_}
 use native.Mathlib.Nat.{add-zero, zero-add, add-suc, suc-add}
+use native.Mathlib.Numerals.{add-one}
 use borrow.Author.Tests.{lt-ltb, le-ltb}
 use lib.Dec.{ltb}
 use lib.ListN.{length, drop, getD, set}
 use lib.Seq.{sets, sets-eq, drop-cons}
-use native.Mathlib.Numerals.{add-one}
-use Rattle.model.specs.declared.Refusal.the-variants.{TooShort}
+use Rattle.model.specs.declared.Refusal.{Refusal}
 use Rattle.text.specs.Hex.{digitsOf, lineOf, textOf}
 use Rattle.text.specs.Output.{Writes}
 use Rattle.text.specs.declared.Written.the-variants.{Bytes, Refused}
@@ -29,14 +29,15 @@ pub text-more : (t : List ℕ) (to : ℕ) (r : List ℕ) (rs : List (List ℕ)) 
 unfolding textOf
 text-more t to r rs = sym (sets-append t to (lineOf r) (textOf rs))
 
--- What both writers owe of a text that is too short, and of one that is not.
-pub too-short : (text lines : List ℕ) (size : ℕ) → length lines ≡ size → length text < size → Writes text text lines (Refused TooShort)
-too-short text lines size e short =
-    let tested : ltb (length text) (length lines) ≡ true = lt-ltb (length text) (length lines) (rw e short) in
-    record { says = rw tested; text = rw tested }
+-- What a writer owes of a text that is too short, and of one that is not.
+module _ (refusal : Refusal) (text lines : List ℕ) (size : ℕ) (is : length lines ≡ size) where
+  pub too-short : length text < size → Writes refusal text text lines (Refused refusal)
+  too-short few =
+      let tested : ltb (length text) (length lines) ≡ true = lt-ltb (length text) (length lines) (rw is few) in
+      record { says = rw tested; text = rw tested }
 
-pub all-written : (text lines : List ℕ) (size : ℕ) → length lines ≡ size → size ≤ length text → Writes text (sets text 0 lines) lines (Bytes size)
-all-written text lines size e fits =
-    let room : length lines ≤ length text = rw e fits in
-    let tested : ltb (length text) (length lines) ≡ false = le-ltb _ _ room in
-    record { says = rw (tested, e); text = rw tested (sets-eq lines text 0 (rw zero-add room) ∙ rw zero-add) }
+  pub all-written : size ≤ length text → Writes refusal text (sets text 0 lines) lines (Bytes size)
+  all-written fits =
+      let room : length lines ≤ length text = rw is fits in
+      let tested : ltb (length text) (length lines) ≡ false = le-ltb _ _ room in
+      record { says = rw (tested, is); text = rw tested (sets-eq lines text 0 (rw zero-add room) ∙ rw zero-add) }

@@ -1,17 +1,25 @@
--- Lines of hexadecimal: document 01, "The text". A record is a list of bytes, and stands in a line of its own.
+-- Lines of hexadecimal: docs/SPEC.md, "The text". A record is a list of bytes, and stands in a line of its own.
+--   joined       a byte at the front of the first of some lines
 --   linesOf      the lines of a text: each ends at a line feed, and the last may lack it
+--   Maybe        what may be missing
 --   nibbleOf     the value of a hexadecimal digit, small or capital
+--   byteOf       the byte of two digits' values
+--   atFront      a byte at the front of bytes, where none is missing
+--   pairsOf      the bytes of pairs of digits; an odd digit is none
 --   bytesOf      the bytes of a line: some digits, an even number of them
+--   glyphOf      the small digit of a number below 16
+--   digitsOf     the digits of bytes, two for each
 --   lineOf       the line that is written for a record: small letters, and a line feed
+--   textOf       the lines of records, one behind the other
+--   inBytes      a number in so many bytes, the high byte first
+--   numberFrom   the number that bytes spell behind a number
 --   numberIn     the number that bytes spell, the high byte first
---   two          the bytes of a number below 65,536
 -- Assumes nothing.
 use mathlib.Core.Bool.{Bool, cond, _&&_}
 use mathlib.Core.List.{List, [], _∷_, _++_}
-use Prim.Native.Nat.{ℕ, _+_, _-_, _*_, _/_, _%_}
+use Prim.Native.Nat.{ℕ, zero, suc, _+_, _-_, _*_, _/_, _%_}
 use lib.Dec.{leb, eqb, ltb}
 
--- A byte belongs to the line that it begins.
 abbrev pub joined : ℕ → List (List ℕ) → List (List ℕ)
 joined b [] = (b ∷ []) ∷ []
 joined b (l ∷ ls) = (b ∷ l) ∷ ls
@@ -20,7 +28,6 @@ unfoldable pub linesOf : List ℕ → List (List ℕ)
 linesOf [] = []
 linesOf (b ∷ bs) = cond (eqb b 10) ([] ∷ linesOf bs) (joined b (linesOf bs))
 
--- What may be missing.
 pub data Maybe (A : Type 0) : Type 0 where
   none : Maybe A
   some : A → Maybe A
@@ -43,7 +50,6 @@ atFront none bs = none
 atFront (some b) none = none
 atFront (some b) (some bs) = some (b ∷ bs)
 
--- Pairs of digits, each a byte. An odd digit is none.
 unfoldable pub pairsOf : List ℕ → Maybe (List ℕ)
 pairsOf [] = some []
 pairsOf (h ∷ []) = none
@@ -54,7 +60,6 @@ unfoldable pub bytesOf : List ℕ → Maybe (List ℕ)
 bytesOf [] = none
 bytesOf (b ∷ bs) = pairsOf (b ∷ bs)
 
--- The small digit of a number below 16.
 abbrev pub glyphOf : ℕ → ℕ
 glyphOf x = cond (ltb x 10) (48 + x) (87 + x)
 
@@ -65,14 +70,15 @@ digitsOf (b ∷ bs) = glyphOf (b / 16) ∷ glyphOf (b % 16) ∷ digitsOf bs
 abbrev pub lineOf : List ℕ → List ℕ
 lineOf bs = digitsOf bs ++ (10 ∷ [])
 
--- The lines of records, one behind the other.
 unfoldable pub textOf : List (List ℕ) → List ℕ
 textOf [] = []
 textOf (r ∷ rs) = lineOf r ++ textOf rs
 
--- A greater number would lose bits here, so none is ever passed: the writers take numbers of 16 bits.
-abbrev pub two : ℕ → List ℕ
-two x = x / 256 % 256 ∷ x % 256 ∷ []
+-- Nothing is cut off: what is too great for its bytes has a first one that is none, so no line can be of it.
+abbrev pub inBytes : (width x : ℕ) → List ℕ
+inBytes zero x = []
+inBytes (suc zero) x = x ∷ []
+inBytes (suc (suc w)) x = inBytes (suc w) (x / 256) ++ (x % 256 ∷ [])
 
 unfoldable pub numberFrom : ℕ → List ℕ → ℕ
 numberFrom n [] = n

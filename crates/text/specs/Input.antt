@@ -1,42 +1,52 @@
--- The input: a board's line, then a line for each job. Document 01, "The text" and refusals 8, 9, 10 and 3.
---   Entry        what a line of an input says: a board, or a job
---   entryOf      the entry of a record, or none: unknown, of wrong length, or with a byte that may not be
---   lineSays     the entry of a line, or refusal 8 or 9
---   jobsFrom     the jobs of the lines after the first: refusal 10 for a board, refusal 3 for one job too many
---   inputOf      a text's board and jobs, or the refusal of its first bad line
---   headOf       an answer's board and the number of its jobs; jobsGiven, its jobs
---   saysReading  what the code's outcome says: a head, or a refusal
---   short        whether columns are too short for some set
---   inColumns    an answer for columns of so many rows: refusal 7 where they are too short
---   readOf       what a text says for columns of so many rows
---   front        a column with the costs of jobs at its front
---   Gives        an outcome that says an answer, with every row of its columns; Reads, the reader's: what its text says
+-- The input: a board's line, then a line for each job. docs/SPEC.md, "The text", and refusals 8, 9, 10 and 3.
+--   boardIn       the board of its record
+--   jobIn         the job of the fields of its record: the allowed kinds, the cost on the first kind, that on the second
+--   entryJob      the entry of a job, where there is one
+--   entryOf       the entry of a record, or none: unknown, of wrong length, or with a byte that may not be
+--   recordSays    the entry of line i's record, or refusal 9
+--   bytesSay      the entry of line i's bytes, or refusal 8
+--   lineSays      the entry of line i, or refusal 8 or 9
+--   Input         a board and its jobs
+--   asBoard       the board of an entry, or refusal 10
+--   asJob         the job of an entry: refusal 10 for a board, refusal 3 for one job too many
+--   jobsFrom      the jobs of the lines after the first
+--   inputFrom     the board and the jobs of lines, or the refusal of the first bad one
+--   inputOf       a text's board and jobs, or the refusal of its first bad line
+--   Head          a board, and how many jobs it has
+--   headOf        an answer's board and the number of its jobs
+--   jobsGiven     an answer's jobs, and none where it is a refusal
+--   saysReading   what the code's answer says: a head, or a refusal
+--   short         whether columns of m1 and m2 rows are too short for some set
+--   inColumns     an answer for such columns: refusal 7, last of all, where they are too short
+--   readOf        what a text says for such columns
+--   Gives         an answer of the code that says what a set gives, and every row of both columns after it
+--   Reads         the reader's answer: what its text says
 -- Assumes nothing.
 use mathlib.Core.Bool.{Bool, cond, _&&_, _||_}
-use mathlib.Core.List.{List, [], _∷_, _++_, map}
+use mathlib.Core.List.{List, [], _∷_, map}
 use mathlib.Core.Path.{_≡_}
 use Prim.Native.Nat.{ℕ, _+_, _≤_}
 use lib.Dec.{eqb, ltb}
-use lib.ListN.{length, take, drop}
+use lib.ListN.{length}
+use Rattle.rows.specs.Lists.{front}
 use Rattle.model.specs.Columns.{costOn}
 use Rattle.model.specs.Limits.{jobsMost, textMost}
 use Rattle.model.specs.Refusal.{Answer, given, refused, saysRefusal, andThen}
 use Rattle.model.specs.declared.Board.{Board}
 use Rattle.model.specs.declared.Job.{Job}
 use Rattle.model.specs.declared.Job.the-variants.{Both, OnlyFirst, OnlySecond}
-use Rattle.model.specs.declared.Kind.{Kind}
 use Rattle.model.specs.declared.Kind.the-variants.{First, Second}
-use Rattle.text.specs.Hex.{Maybe, none, some, linesOf, bytesOf, numberIn}
+use Rattle.text.specs.Hex.{Maybe, none, some, linesOf, bytesOf}
+use Rattle.text.specs.Records.{boardForm, jobForm, isA, field}
 use Rattle.text.specs.declared.Entry.{Entry}
 use Rattle.text.specs.declared.Entry.the-variants.{OfBoard, OfJob}
 use Rattle.text.specs.declared.Reading.{Reading}
 use Rattle.text.specs.declared.Reading.the-variants.{Set, Refused}
 
--- 01: W in two bytes, the cores of the first kind and of the second.
 abbrev pub boardIn : List ℕ → Board
-boardIn bs = record { window = numberIn (take 2 bs); first = numberIn (take 1 (drop 2 bs)); second = numberIn (take 1 (drop 3 bs)) }
+boardIn r = record { window = field boardForm 0 r; first = field boardForm 1 r; second = field boardForm 2 r }
 
--- 02: the allowed byte (0 both, 1 first, 2 second), then two costs. The cost of a kind that is not allowed has to be 0.
+-- The cost of a kind that is not allowed has to be 0.
 unfoldable pub jobIn : (allowed c1 c2 : ℕ) → Maybe Job
 jobIn allowed c1 c2 =
     cond (eqb allowed 0) (some (Both (record { 0 = c1 }) (record { 0 = c2 })))
@@ -47,13 +57,10 @@ abbrev pub entryJob : Maybe Job → Maybe Entry
 entryJob none = none
 entryJob (some j) = some (OfJob j)
 
--- By the first byte and the length of the record: 5 bytes for a board, 10 for a job.
 unfoldable pub entryOf : List ℕ → Maybe Entry
-entryOf [] = none
-entryOf (tag ∷ bs) =
-    cond (eqb tag 1 && eqb (length bs) 4) (some (OfBoard (boardIn bs)))
-    (cond (eqb tag 2 && eqb (length bs) 9)
-    (entryJob (jobIn (numberIn (take 1 bs)) (numberIn (take 4 (drop 1 bs))) (numberIn (drop 5 bs)))) none)
+entryOf r =
+    cond (isA boardForm r) (some (OfBoard (boardIn r)))
+    (cond (isA jobForm r) (entryJob (jobIn (field jobForm 0 r) (field jobForm 1 r) (field jobForm 2 r))) none)
 
 abbrev pub recordSays : ℕ → Maybe Entry → Answer Entry
 recordSays i none = refused 9 i
@@ -63,7 +70,6 @@ abbrev pub bytesSay : ℕ → Maybe (List ℕ) → Answer Entry
 bytesSay i none = refused 8 i
 bytesSay i (some bs) = recordSays i (entryOf bs)
 
--- Line i.
 abbrev pub lineSays : ℕ → List ℕ → Answer Entry
 lineSays i line = bytesSay i (bytesOf line)
 
@@ -96,7 +102,6 @@ inputFrom (line ∷ lines) =
 unfoldable pub inputOf : List ℕ → Answer Input
 inputOf text = cond (ltb textMost (length text)) (refused 8 0) (inputFrom (linesOf text))
 
--- What an answer on an input says beside its jobs: the board, and how many they are.
 pub record Head : Type 0 where
   pub board : Board
   pub count : ℕ
@@ -113,27 +118,21 @@ abbrev pub saysReading : Reading → Answer Head
 saysReading (Set b n) = given (record { board = b; count = n })
 saysReading (Refused r) = saysRefusal r
 
--- Whether columns of m1 and m2 rows are too short for some set.
 abbrev pub short : (m1 m2 : ℕ) → Bool
 short m1 m2 = ltb m1 jobsMost || ltb m2 jobsMost
 
--- Refusal 7 comes last of all.
 abbrev pub inColumns : Answer Input → (m1 m2 : ℕ) → Answer Input
 inColumns answer m1 m2 = andThen answer (λ (i : Input). cond (short m1 m2) (refused 7 0) (given i))
 
 abbrev pub readOf : List ℕ → (m1 m2 : ℕ) → Answer Input
 readOf text m1 m2 = inColumns (inputOf text) m1 m2
 
--- A column with the costs of jobs at its front.
-abbrev pub front : Kind → List Job → List ℕ → List ℕ
-front k js c = map (costOn k) js ++ drop (length js) c
-
 -- What is read of a set into columns c1 and c2, where `answer` is what these get of it.
 pub record Gives (set answer : Answer Input) (c1 c2 : List ℕ) (r : Reading) (c1′ c2′ : List ℕ) : Type 0 where
   pub says : saysReading r ≡ headOf answer
   pub few : length (jobsGiven set) ≤ jobsMost
-  pub first : c1′ ≡ front First (jobsGiven answer) c1
-  pub second : c2′ ≡ front Second (jobsGiven answer) c2
+  pub first : c1′ ≡ front (map (costOn First) (jobsGiven answer)) c1
+  pub second : c2′ ≡ front (map (costOn Second) (jobsGiven answer)) c2
 
 abbrev pub Reads : (text c1 c2 : List ℕ) → Reading → (c1′ c2′ : List ℕ) → Type 0
 Reads text c1 c2 r c1′ c2′ = Gives (inputOf text) (readOf text (length c1) (length c2)) c1 c2 r c1′ c2′

@@ -1,5 +1,7 @@
+-- What the promises cite, in reading order: lines and digits, the records, what is read, what is written.
 pub mod Hex
+pub mod Records
 pub mod Input
-pub mod Reader
 pub mod Output
-pub mod Example
+-- Internal: what the reader's functions promise each other.
+pub mod Reader

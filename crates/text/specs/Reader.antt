@@ -1,31 +1,40 @@
--- What the reader's functions promise each other.
---   lineIn       a text's first line, without its line feed; lineLength, how many bytes it has
+-- Internal: no public promise cites this. What the reader's functions promise each other.
+--   lineLength   how many bytes a text's first line has
+--   lineIn       a text's first line, without its line feed
+--   isThere      whether nothing is missing
 --   valueOf      a digit's value as the code has it: 16 where there is none
+--   digitThen    a digit's value at the front of others; a byte that is no digit ends them
 --   digitsIn     the values of the digits that a text begins with
+--   hexFrom      the number that digits spell behind a number
 --   hexIn        the number that digits spell, the high digit first
 --   isEnd        whether a line ends here: at the end of the text, or at a line feed
 --   Spells       a run of digits, as many as are asked for or as there are: its number, and where it ends
---   Numbered     the numbers of a line's digits, and where they end
---   HoldsRecord  the numbers of a record, as a line of so many digits has them
---   saysLine, saysRow   what the code's answers on a line say
+--   headSize     the bytes of a job before its costs
+--   costSize     the bytes of a cost
+--   Numbered     the numbers of a line's digits, cut as those of a job are, and where they end
+--   HoldsRecord  the numbers of a record of so many bytes, cut as a job is
+--   saysLine     what the code's answer on a line says
 --   SaysRecord   an answer on a line that is what its record says, told by its numbers
---   costsSaid    of an answer that gives a job, what the job costs on each kind
+--   Costs        what a job costs on each kind, as columns have it
+--   costsSaid    of an answer that gives a job, what the job costs
+--   saysRow      what the code's answer on the line of a job says
 --   setFrom      what the lines after the board's give
---   GivesIn      an outcome that says an answer, as columns of their lengths get it
+--   GivesIn      an answer of the code that says what a set gives, as columns of their lengths get it
 -- Assumes nothing.
 use mathlib.Core.Bool.{Bool, true, false, cond}
 use mathlib.Core.List.{List, [], _∷_}
 use mathlib.Core.Path.{_≡_}
 use Prim.Native.Nat.{ℕ, suc, _+_, _*_, _<_}
 use lib.Dec.{eqb}
-use lib.ListN.{length, take, drop}
-use Rattle.model.specs.Columns.{costOn}
+use lib.ListN.{length, take, drop, getD}
 use Rattle.rows.specs.Lists.{All}
+use Rattle.model.specs.Columns.{costOn}
 use Rattle.model.specs.Refusal.{Answer, given, refused, saysRefusal, andThen}
 use Rattle.model.specs.declared.Board.{Board}
 use Rattle.model.specs.declared.Job.{Job}
 use Rattle.model.specs.declared.Kind.the-variants.{First, Second}
 use Rattle.text.specs.Hex.{Maybe, none, some, nibbleOf, numberIn}
+use Rattle.text.specs.Records.{jobForm}
 use Rattle.text.specs.Input.{Input, entryOf, recordSays, jobsFrom, inColumns, Gives}
 use Rattle.text.specs.declared.Entry.{Entry}
 use Rattle.text.specs.declared.Reading.{Reading}
@@ -51,7 +60,6 @@ abbrev pub valueOf : Maybe ℕ → ℕ
 valueOf none = 16
 valueOf (some x) = x
 
--- A byte that is no digit ends the digits.
 abbrev pub digitThen : Maybe ℕ → List ℕ → List ℕ
 digitThen none ds = []
 digitThen (some x) ds = x ∷ ds
@@ -75,19 +83,25 @@ pub record Spells (ds : List ℕ) (from most : ℕ) (r : Run) : Type 0 where
   pub value : r .value ≡ hexIn (take most ds)
   pub end : r .end ≡ from + length (take most ds)
 
-pub record Numbered (ds : List ℕ) (from : ℕ) (line : Numbers) : Type 0 where
-  pub head : line .head ≡ hexIn (take 4 ds)
-  pub a : line .a ≡ hexIn (take 8 (drop 4 ds))
-  pub b : line .b ≡ hexIn (take 8 (drop 12 ds))
-  pub end : line .end ≡ from + length ds
+abbrev pub headSize : ℕ
+headSize = 1 + getD (jobForm .widths) 0 0
+
+abbrev pub costSize : ℕ
+costSize = getD (jobForm .widths) 1 0
 
 -- Two digits for each byte.
+pub record Numbered (ds : List ℕ) (from : ℕ) (line : Numbers) : Type 0 where
+  pub head : line .head ≡ hexIn (take (2 * headSize) ds)
+  pub a : line .a ≡ hexIn (take (2 * costSize) (drop (2 * headSize) ds))
+  pub b : line .b ≡ hexIn (take (2 * costSize) (drop (2 * (headSize + costSize)) ds))
+  pub end : line .end ≡ from + length ds
+
 pub record HoldsRecord (bs : List ℕ) (size : ℕ) (line : Numbers) : Type 0 where
-  pub size-is : size ≡ length bs + length bs
+  pub size-is : size ≡ length bs
   pub small : All (λ (b : ℕ). b < 256) bs
-  pub head : line .head ≡ numberIn (take 2 bs)
-  pub a : line .a ≡ numberIn (take 4 (drop 2 bs))
-  pub b : line .b ≡ numberIn (take 4 (drop 6 bs))
+  pub head : line .head ≡ numberIn (take headSize bs)
+  pub a : line .a ≡ numberIn (take costSize (drop headSize bs))
+  pub b : line .b ≡ numberIn (take costSize (drop (headSize + costSize) bs))
 
 abbrev pub saysLine : Line → Answer Entry
 saysLine (Says e) = given e
@@ -96,7 +110,6 @@ saysLine (BadLine r) = saysRefusal r
 pub record SaysRecord (size : ℕ) (line : Numbers) (i : ℕ) (r : Line) : Type 0 where
   pub is : (bs : List ℕ) → HoldsRecord bs size line → saysLine r ≡ recordSays i (entryOf bs)
 
--- What a job costs on each kind, as columns have it.
 pub record Costs : Type 0 where
   pub first : ℕ
   pub second : ℕ

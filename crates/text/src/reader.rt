@@ -1,4 +1,4 @@
-// The reader: bytes to a board and its jobs, or the refusal of the first bad line. Document 01, "The text" and refusals 8, 9, 10 and 3.
+// The reader: bytes to a board and its jobs, or the refusal of the first bad line. docs/SPEC.md, "The text", and refusals 8, 9, 10 and 3.
 // The costs go into columns that the caller lends, once the whole text is known to be a set, so that a refusal changes none.
 ghost use mathlib.Core.List.{_++_};
 ghost use mathlib.Core.Path.{_≡_};
@@ -10,8 +10,6 @@ ghost use Rattle.model.specs.Refusal.{andThen};
 ghost use Rattle.text.specs.Hex.{linesOf, nibbleOf, bytesOf};
 ghost use Rattle.text.specs.Input.{jobIn, entryJob, recordSays, lineSays, asJob, short, Reads};
 ghost use Rattle.text.specs.Reader.{lineIn, isThere, valueOf, digitsIn, isEnd, Spells, Numbered, SaysRecord, saysLine, saysRow, costsSaid, setFrom, GivesIn};
-use super::Entry;
-use super::Reading;
 use model::Board;
 use model::FirstTicks;
 use model::JOBS_MOST;
@@ -21,6 +19,14 @@ use model::Refusal;
 use model::SecondTicks;
 use model::TEXT_MOST;
 use model::cost;
+use super::Entry;
+use super::Reading;
+use super::records::BOARD;
+use super::records::BOARD_SIZE;
+use super::records::COST_DIGITS;
+use super::records::HEAD_DIGITS;
+use super::records::JOB;
+use super::records::JOB_SIZE;
 
 // A run of digits: the number that it spells, and where it ends.
 struct Run {
@@ -28,7 +34,8 @@ struct Run {
     end: usize,
 }
 
-// The numbers that the digits of a line spell: the first four, the eight behind them, the eight behind those. And where its digits end.
+// The numbers that the digits of a line spell, cut as a job's are: the first byte with the allowed kinds, and each cost. And where its digits end.
+// A board, which is shorter, is put together from them again: so each digit is read once, whatever the line turns out to be.
 struct Numbers {
     head: u32,
     a: u32,
@@ -101,9 +108,9 @@ fn digits_end(text: &[u8], from: usize) -> usize
 fn line_at(text: &[u8], from: usize) -> Numbers
     ensures { λ r. ⌜ Numbered (digitsIn (drop from (now (text .entry)))) from r ⌝ }
 {
-    let head = run_of(text, from, 4);
-    let a = run_of(text, head.end, 8);
-    let b = run_of(text, a.end, 8);
+    let head = run_of(text, from, HEAD_DIGITS);
+    let a = run_of(text, head.end, COST_DIGITS);
+    let b = run_of(text, a.end, COST_DIGITS);
     let end = digits_end(text, b.end);
     Numbers {
         head: head.value,
@@ -161,19 +168,19 @@ fn job_in(allowed: u32, c1: u32, c2: u32, i: u32) -> Line
     }
 }
 
-// What a record says, by its first byte and how many digits its line has.
+// What a record says, by its first byte and how many bytes it has.
 fn record_says(size: usize, line: Numbers, i: u32) -> Line
     ensures { λ r. ⌜ SaysRecord size line i r ⌝ }
 {
     let tag = line.head / 256;
-    if size == 20 {
-        if tag == 2 {
+    if size == JOB_SIZE {
+        if tag == JOB {
             return job_in(line.head % 256, line.a, line.b, i);
         }
         return Line::Refused(Refusal::Record(i));
     }
-    if size == 10 {
-        if tag == 1 {
+    if size == BOARD_SIZE {
+        if tag == BOARD {
             return Line::Says(Entry::OfBoard(Board {
                 window: line.head % 256 * 256 + line.a / 65536 % 256,
                 first: line.a / 256 % 256,
@@ -193,7 +200,7 @@ fn entry(text: &[u8], from: usize, line: Numbers, i: u32) -> Line
     if !is_line(text, from, end) {
         return Line::Refused(Refusal::NotHex(i));
     }
-    record_says(end - from, line, i)
+    record_says((end - from) / 2, line, i)
 }
 
 // The line of job n, which is line n + 2 of the text.

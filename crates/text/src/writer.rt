@@ -1,34 +1,31 @@
 // The writers: the lines of a plan, or of a refusal, into a text that the caller lends.
 // The length of the lines is known before any is written, so a text that is too short stays as it was.
-use crate::Written;
-use model::JOBS_MOST;
-use model::Kind;
-use model::Refusal;
-use model::SLICES_MOST;
 ghost use mathlib.Core.Path.{_≡_};
 ghost use mathlib.Core.List.{[], _∷_, map};
 ghost use Prim.Native.Nat.{_+_, _*_, _/_, _%_, _≤_, _<_, min};
 ghost use lib.ListN.{length};
 ghost use lib.Seq.{sets};
-ghost use Rattle.model.specs.Board.{on};
 ghost use Rattle.model.specs.Columns.{sharesIn};
 ghost use Rattle.model.specs.Limits.{jobsMost, slicesMost};
-ghost use Rattle.model.specs.Packed.{sliceIn, slicesIn};
+ghost use Rattle.model.specs.Packed.{kindNumber, sliceIn, slicesIn};
 ghost use Rattle.model.specs.Split.{share};
+ghost use Rattle.model.specs.declared.Refusal.the-variants.{TooShort};
 ghost use Rattle.text.specs.Hex.{glyphOf, digitsOf, lineOf, textOf};
+ghost use Rattle.text.specs.Records.{shareForm, sliceForm, lineSize};
 ghost use Rattle.text.specs.Output.{shareRecord, shareRecords, sliceRecord, planText, refusedText, Writes};
-
-// The bytes of a line for each record: two digits a byte, and a line feed.
-const COUNT_LINE: usize = 7;
-
-const SHARE_LINE: usize = 13;
-
-const SLICE_LINE: usize = 17;
-
-const REFUSAL_LINE: usize = 7;
-
-// The most bytes that an answer has: the lines of a plan of all jobs and all slices. clampfern's theorem `answer-size` says that it is enough.
-pub const ANSWER_MOST: usize = COUNT_LINE + SHARE_LINE * JOBS_MOST + SLICE_LINE * SLICES_MOST;
+use model::JOBS_MOST;
+use model::Kind;
+use model::Refusal;
+use model::SLICES_MOST;
+use super::Written;
+use super::records::COUNTS;
+use super::records::COUNTS_LINE;
+use super::records::REFUSAL;
+use super::records::REFUSAL_LINE;
+use super::records::SHARE;
+use super::records::SHARE_LINE;
+use super::records::SLICE;
+use super::records::SLICE_LINE;
 
 // Writes a plan's lines: 10 with the counts, 11 for each of n jobs by their ticks on each kind, 12 for each of k slices. Above what a column has, n and k
 // count as all. Ticks have 16 bits, as a line has for them: what a line cannot hold cannot be passed.
@@ -40,29 +37,29 @@ pub fn write_plan(
     k: usize,
     text: &mut [u8],
 ) -> Written
-    ensures { λ r. ⌜ Writes (now (text .entry)) (now (text .exit)) (planText (sharesIn (min n jobsMost) (now (first .entry)) (now (second .entry))) (slicesIn (min k slicesMost) (now (slices .entry)))) r ⌝ }
+    ensures { λ r. ⌜ Writes TooShort (now (text .entry)) (now (text .exit)) (planText (sharesIn (min n jobsMost) (now (first .entry)) (now (second .entry))) (slicesIn (min k slicesMost) (now (slices .entry)))) r ⌝ }
 {
-    let jobs = at_most(n, JOBS_MOST);
-    let rows = at_most(k, SLICES_MOST);
-    let after_shares = COUNT_LINE + SHARE_LINE * jobs;
+    let jobs = rows::at_most(n, JOBS_MOST);
+    let rows = rows::at_most(k, SLICES_MOST);
+    let after_shares = COUNTS_LINE + SHARE_LINE * jobs;
     let size = after_shares + SLICE_LINE * rows;
     if text.len() < size {
         return Written::Refused(Refusal::TooShort);
     }
-    put_line(&[0x10, jobs as u8, rows as u8], text, 0);
-    put_shares(first, second, jobs, text, COUNT_LINE);
+    put_line(&[COUNTS, jobs as u8, rows as u8], text, 0);
+    put_shares(first, second, jobs, text, COUNTS_LINE);
     put_slices(slices, rows, text, after_shares);
     Written::Bytes(size)
 }
 
 // Writes a refusal's line: 1f with the number and the place, a byte each. A place may be greater elsewhere; who calls shows that it is not.
 pub fn write_refusal(number: u8, place: u8, text: &mut [u8]) -> Written
-    ensures { λ r. ⌜ Writes (now (text .entry)) (now (text .exit)) (refusedText number place) r ⌝ }
+    ensures { λ r. ⌜ Writes TooShort (now (text .entry)) (now (text .exit)) (refusedText number place) r ⌝ }
 {
     if text.len() < REFUSAL_LINE {
         return Written::Refused(Refusal::TooShort);
     }
-    put_line(&[0x1f, number, place], text, 0);
+    put_line(&[REFUSAL, number, place], text, 0);
     Written::Bytes(REFUSAL_LINE)
 }
 
@@ -74,7 +71,7 @@ fn put_shares(
     text: &mut [u8],
     at: usize,
 )
-    requires { ⌜ (n ≤ jobsMost) × (at + 13 * n ≤ length (now text)) ⌝ }
+    requires { ⌜ (n ≤ jobsMost) × (at + lineSize shareForm * n ≤ length (now text)) ⌝ }
     ensures { λ _. ⌜ now (text .exit) ≡ sets (now (text .entry)) at (textOf (shareRecords 0 (sharesIn n (now (first .entry)) (now (second .entry))))) ⌝ }
 {
     let mut i = 0;
@@ -88,7 +85,7 @@ fn put_shares(
 
 // The lines of the first k slices.
 fn put_slices(slices: &[u64; SLICES_MOST], k: usize, text: &mut [u8], at: usize)
-    requires { ⌜ (k ≤ slicesMost) × (at + 17 * k ≤ length (now text)) ⌝ }
+    requires { ⌜ (k ≤ slicesMost) × (at + lineSize sliceForm * k ≤ length (now text)) ⌝ }
     ensures { λ _. ⌜ now (text .exit) ≡ sets (now (text .entry)) at (textOf (map sliceRecord (slicesIn k (now (slices .entry))))) ⌝ }
 {
     let mut i = 0;
@@ -102,12 +99,12 @@ fn put_slices(slices: &[u64; SLICES_MOST], k: usize, text: &mut [u8], at: usize)
 
 // The line of a job's share.
 fn put_share(job: u8, first: u16, second: u16, text: &mut [u8], at: usize)
-    requires { ⌜ at + 13 ≤ length (now text) ⌝ }
+    requires { ⌜ at + lineSize shareForm ≤ length (now text) ⌝ }
     ensures { λ _. ⌜ now (text .exit) ≡ sets (now (text .entry)) at (lineOf (shareRecord job (share first second))) ⌝ }
 {
     put_line(
         &[
-            0x11,
+            SHARE,
             job,
             high(first),
             low(first),
@@ -121,7 +118,7 @@ fn put_share(job: u8, first: u16, second: u16, text: &mut [u8], at: usize)
 
 // The line of a slice that is one number.
 fn put_slice(packed: u64, text: &mut [u8], at: usize)
-    requires { ⌜ at + 17 ≤ length (now text) ⌝ }
+    requires { ⌜ at + lineSize sliceForm ≤ length (now text) ⌝ }
     ensures { λ _. ⌜ now (text .exit) ≡ sets (now (text .entry)) at (lineOf (sliceRecord (sliceIn packed))) ⌝ }
 {
     let slice = model::slice_in(packed);
@@ -130,7 +127,7 @@ fn put_slice(packed: u64, text: &mut [u8], at: usize)
     let length = slice.length;
     put_line(
         &[
-            0x12,
+            SLICE,
             slice.job,
             kind_byte(kind),
             slice.core,
@@ -178,7 +175,7 @@ fn glyph(x: u8) -> u8
 
 // The high byte of a number of ticks, and the low one.
 fn high(x: u16) -> u8
-    ensures { λ r. ⌜ r ≡ x / 256 % 256 ⌝ }
+    ensures { λ r. ⌜ r ≡ x / 256 ⌝ }
 {
     (x / 256) as u8
 }
@@ -191,17 +188,10 @@ fn low(x: u16) -> u8
 
 // A kind, as it is written.
 fn kind_byte(kind: Kind) -> u8
-    ensures { λ r. ⌜ r ≡ on kind 1 2 ⌝ }
+    ensures { λ r. ⌜ r ≡ kindNumber kind ⌝ }
 {
     match kind {
         Kind::First => 1,
         Kind::Second => 2,
     }
-}
-
-// n, or all where it is more than there are.
-fn at_most(n: usize, most: usize) -> usize
-    ensures { λ r. ⌜ r ≡ min n most ⌝ }
-{
-    if n < most { n } else { most }
 }

@@ -2,8 +2,8 @@
 use mathlib.Core.Path.{ap, _∙_}
 use mathlib.Core.List.{List, _++_}
 use Prim.Native.Nat.{ℕ}
-use lib.ListN.{length}
 use borrow.Author.Needs.{needs}
+use lib.ListN.{length}
 use Rattle.text.specs.Output.{answerMost}
 use Rattle.clampfern.specs.Answer.{answerText}
 use Rattle.clampfern.proofs.Entry.{entered-whole}

@@ -2,9 +2,9 @@
 -- Assumes nothing.
 use mathlib.Core.Path.{refl}
 use borrow.Author.Needs.{needs}
-use Rattle.model.specs.Columns.{jobsIn}
 use Rattle.rows.proofs.Upto.{upto-length}
-use Rattle.clampfern.proofs.Lines.{columns-planned, columns-refused, writes-as}
+use Rattle.model.specs.Columns.{jobsIn}
+use Rattle.clampfern.proofs.Lines.{columns-planned, columns-refused, columns-place}
 use Rattle.clampfern.proofs.answer_in.Statement.{statement}
 use Rattle.clampfern.proofs.answer_in.Tie as tie
 
@@ -23,8 +23,12 @@ plan-columns-requires c κs = search needs
 enum-known-planned : tie.Need-enum-known-planned
 enum-known-planned c = search needs
 
-write-refusal-requires : tie.Need-write-refusal-requires
-write-refusal-requires c κs = search needs
+write-refused-requires : tie.Need-write-refused-requires
+write-refused-requires c κs =
+    let told = c .before .before in
+    let called = told .before .before .before .before .before in
+    let a = called .before .before .before .before .before .args in
+    columns-place (a .board) (jobsIn (a .n) (a .first .now) (a .second .now)) (upto-length (a .n) _) (called .plan-columns .ensures) refl refl refl (told .planned .given .1)
 
 enum-known-planned-2 : tie.Need-enum-known-planned-2
 enum-known-planned-2 c = search needs
@@ -40,8 +44,8 @@ returns c =
     let told = c .before .before .before .before .before in
     let called = told .before .before .before .before .before in
     let a = called .before .before .before .before .before .args in
-    writes-as (c .before .before .write-refusal .ensures)
-    (columns-refused (a .board) (jobsIn (a .n) (a .first .now) (a .second .now)) (upto-length (a .n) _) (called .plan-columns .ensures) refl refl refl (told .planned .given .1))
+    rw (columns-refused (a .board) (jobsIn (a .n) (a .first .now) (a .second .now)) (upto-length (a .n) _) (called .plan-columns .ensures) refl refl refl (told .planned .given .1))
+    (c .before .before .write-refused .ensures)
 
 same-length-2 : tie.Need-same-length-2
 same-length-2 c = search needs
@@ -51,8 +55,8 @@ returns-2 c =
     let told = c .before .before .before .before .before .before .before .before in
     let called = told .before .before .before .before .before in
     let a = called .before .before .before .before .before .args in
-    writes-as (c .before .before .write-plan .ensures)
-    (columns-planned (a .board) (jobsIn (a .n) (a .first .now) (a .second .now)) (upto-length (a .n) _) (called .plan-columns .ensures) refl refl refl (told .planned2 .given .1))
+    rw (← (columns-planned (a .board) (jobsIn (a .n) (a .first .now) (a .second .now)) (upto-length (a .n) _) (called .plan-columns .ensures) refl refl refl (told .planned2 .given .1)))
+    (c .before .before .write-plan .ensures)
 
 pub answer-in-spec : {M : Type 1} → statement M
 answer-in-spec =
@@ -63,7 +67,7 @@ answer-in-spec =
     slice-aggregate-plan-columns-3
     plan-columns-requires
     enum-known-planned
-    write-refusal-requires
+    write-refused-requires
     enum-known-planned-2
     write-plan-requires
     same-length

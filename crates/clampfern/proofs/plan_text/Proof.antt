@@ -1,6 +1,6 @@
 -- `clampfern::plan_text` meets its contract: what was read is planned, and what was refused has its line. Assumes nothing.
 use borrow.Author.Needs.{needs}
-use Rattle.clampfern.proofs.Lines.{read-planned, read-refused, writes-as}
+use Rattle.clampfern.proofs.Lines.{read-planned, read-refused, read-place}
 use Rattle.clampfern.proofs.plan_text.Statement.{statement}
 use Rattle.clampfern.proofs.plan_text.Tie as tie
 
@@ -16,8 +16,10 @@ read-requires c κs = search needs
 enum-known-refusal : tie.Need-enum-known-refusal
 enum-known-refusal c = search needs
 
-write-refusal-requires : tie.Need-write-refusal-requires
-write-refusal-requires c κs = search needs
+write-refused-requires : tie.Need-write-refused-requires
+write-refused-requires c κs =
+    let told = c .before .before in
+    read-place _ (told .before .before .before .before .read .ensures) _ (told .refusal .given .1)
 
 enum-known-board : tie.Need-enum-known-board
 enum-known-board c = search needs
@@ -32,7 +34,7 @@ returns : tie.Need-returns
 returns c =
     let told = c .before .before .before .before .before in
     let called = told .before .before .before .before in
-    writes-as (c .before .before .write-refusal .ensures) (read-refused _ (called .read .ensures) _ (told .refusal .given .1))
+    rw (read-refused _ (called .read .ensures) _ (told .refusal .given .1)) (c .before .before .write-refused .ensures)
 
 same-length-2 : tie.Need-same-length-2
 same-length-2 c = search needs
@@ -41,7 +43,7 @@ returns-2 : tie.Need-returns-2
 returns-2 c =
     let told = c .before .before .before .before .before .before .before in
     let called = told .before .before .before .before in
-    writes-as (c .before .before .answer-in .ensures) (read-planned _ (called .read .ensures) _ _ (told .board .given .1))
+    rw (← (read-planned _ (called .read .ensures) _ _ (told .board .given .1))) (c .before .before .answer-in .ensures)
 
 pub plan-text-spec : {M : Type 1} → statement M
 plan-text-spec =
@@ -51,7 +53,7 @@ plan-text-spec =
     slice-aggregate-read-2
     read-requires
     enum-known-refusal
-    write-refusal-requires
+    write-refused-requires
     enum-known-board
     answer-in-requires
     same-length

@@ -4,7 +4,7 @@ use native.Mathlib.Omega.{arith}
 use borrow.Author.Needs.{needs}
 use borrow.Author.Tests.{not-true, not-false}
 use Rattle.text.proofs.Digits.{numbers-hold}
-use Rattle.text.proofs.Records.{lineSays-none, lineSays-record}
+use Rattle.text.proofs.Entries.{lineSays-none, lineSays-record}
 use Rattle.text.proofs.reader.entry.Statement.{statement}
 use Rattle.text.proofs.reader.entry.Tie as tie
 

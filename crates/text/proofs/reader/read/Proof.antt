@@ -5,6 +5,7 @@ use mathlib.Core.Path.{_≡_, refl, sym, ap, _∙_}
 use Prim.Native.Nat.{ℕ, _+_, _≤_, _<_}
 use native.Mathlib.Omega.{arith}
 use borrow.Author.Tests.{lt-ltb, le-ltb}
+use borrow.Author.Needs.{needs}
 use lib.ListN.{length, drop}
 use Rattle.model.specs.Limits.{textMost}
 use Rattle.model.specs.Refusal.{refused, andThen}
@@ -16,8 +17,7 @@ use Rattle.text.specs.declared.Entry.{Entry}
 use Rattle.text.proofs.Digits.{digits-fit, line-ends}
 use Rattle.text.proofs.Lent.{gives-refused, gives-as}
 use Rattle.text.proofs.Lines.{linesOf-at}
-use Rattle.text.proofs.Records.{given-there}
-use borrow.Author.Needs.{needs}
+use Rattle.text.proofs.Entries.{given-there}
 use Rattle.text.proofs.reader.read.Statement.{statement}
 use Rattle.text.proofs.reader.read.Tie as tie
 

@@ -1,7 +1,7 @@
 -- `text::reader::record_says` meets its contract: at each answer, how many digits there are and the first byte decide what the record says. Assumes nothing.
 use native.Mathlib.Omega.{arith}
 use borrow.Author.Needs.{needs}
-use Rattle.text.proofs.Records.{holds-job, holds-board, holds-none}
+use Rattle.text.proofs.Entries.{holds-job, holds-board, holds-none}
 use Rattle.text.proofs.reader.record_says.Statement.{statement}
 use Rattle.text.proofs.reader.record_says.Tie as tie
 

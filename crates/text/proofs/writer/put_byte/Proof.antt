@@ -1,6 +1,6 @@
 -- `text::writer::put_byte` meets its contract: two stores, of a byte's two digits. Assumes nothing.
-use borrow.Author.Needs.{needs}
 use native.Mathlib.Numerals.{add-one}
+use borrow.Author.Needs.{needs}
 use Rattle.text.specs.Hex.{digitsOf}
 use Rattle.text.proofs.writer.put_byte.Statement.{statement}
 use Rattle.text.proofs.writer.put_byte.Tie as tie

@@ -6,11 +6,12 @@ use Prim.Native.Nat.{ℕ, _+_, _-_, _*_, _≤_}
 use native.Mathlib.Omega.{arith}
 use lib.ListN.{length, drop}
 use lib.Seq.{sets}
-use Rattle.model.specs.Columns.{sharesIn}
 use Rattle.rows.specs.Upto.{at as number}
 use Rattle.rows.proofs.Upto.{upto-left, upto-none}
+use Rattle.model.specs.Columns.{sharesIn}
 use Rattle.model.specs.Split.{Ticks, share}
 use Rattle.text.specs.Hex.{digitsOf, textOf}
+use Rattle.text.specs.Records.{shareForm, lineSize}
 use Rattle.text.specs.Output.{shareRecord, shareRecords}
 use Rattle.text.proofs.Stores.{text-more}
 use Rattle.text.proofs.writer.put_shares.Statement.{statement}
@@ -21,7 +22,7 @@ shareAt first second i = share (number first i) (number second i)
 
 abbrev Inv-loop : tie.InvT-loop
 Inv-loop first second n text₀ at i₀ to₀ text i to =
-    (i ≤ n) × (to ≡ at + 13 * i) × (length text ≡ length text₀)
+    (i ≤ n) × (to ≡ at + lineSize shareForm * i) × (length text ≡ length text₀)
     × (sets text to (textOf (shareRecords i (drop i (sharesIn n first second)))) ≡ sets text₀ at (textOf (shareRecords 0 (sharesIn n first second))))
 
 abbrev μ-loop : tie.MeasureT-loop

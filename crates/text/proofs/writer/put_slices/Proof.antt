@@ -11,6 +11,7 @@ use Rattle.rows.proofs.Upto.{upto-left, upto-none}
 use Rattle.model.specs.Packed.{sliceIn, slicesIn}
 use Rattle.model.specs.declared.Slice.{Slice}
 use Rattle.text.specs.Hex.{digitsOf, textOf}
+use Rattle.text.specs.Records.{sliceForm, lineSize}
 use Rattle.text.specs.Output.{sliceRecord}
 use Rattle.text.proofs.Stores.{text-more}
 use Rattle.text.proofs.writer.put_slices.Statement.{statement}
@@ -21,7 +22,7 @@ sliceAt slices i = sliceIn (number slices i)
 
 abbrev Inv-loop : tie.InvT-loop
 Inv-loop slices k text₀ at i₀ to₀ text i to =
-    (i ≤ k) × (to ≡ at + 17 * i) × (length text ≡ length text₀)
+    (i ≤ k) × (to ≡ at + lineSize sliceForm * i) × (length text ≡ length text₀)
     × (sets text to (textOf (map sliceRecord (drop i (slicesIn k slices)))) ≡ sets text₀ at (textOf (map sliceRecord (slicesIn k slices))))
 
 abbrev μ-loop : tie.MeasureT-loop

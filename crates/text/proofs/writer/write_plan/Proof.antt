@@ -1,11 +1,11 @@
 -- `text::writer::write_plan` meets its contract: the lines of the counts, of the shares and of the slices are the plan's text, and as long as
 -- was tested. Assumes nothing.
+use borrow.Author.Needs.{needs}
+use Rattle.rows.proofs.Upto.{upto-length}
 use Rattle.model.specs.Columns.{sharesIn}
 use Rattle.model.specs.Packed.{slicesIn}
-use Rattle.rows.proofs.Upto.{upto-length}
 use Rattle.text.proofs.PlanText.{plan-length, plan-stored}
 use Rattle.text.proofs.Stores.{too-short, all-written}
-use borrow.Author.Needs.{needs}
 use Rattle.text.proofs.writer.write_plan.Statement.{statement}
 use Rattle.text.proofs.writer.write_plan.Tie as tie
 
@@ -35,7 +35,7 @@ returns c =
     let j = jobs-most .at-most .result in
     let r = rows-most .at-most2 .result in
     rw (← jobs-most .at-most .ensures, ← rows-most .at-most2 .ensures)
-    (too-short _ _ _ (plan-length (sharesIn j (a .first .now) (a .second .now)) (slicesIn r (a .slices .now)) j r (upto-length j _) (upto-length r _)) (c .if1 .taken))
+    (too-short _ _ _ _ (plan-length (sharesIn j (a .first .now) (a .second .now)) (slicesIn r (a .slices .now)) j r (upto-length j _) (upto-length r _)) (c .if1 .taken))
 
 cast-t16 : tie.Need-cast-t16
 cast-t16 c = search needs
@@ -79,7 +79,7 @@ returns-2 c =
       counts-put .put-line .ensures,
       plan-stored ss rows j r (upto-length j _) (upto-length r _),
     )
-    (all-written _ _ _ (plan-length ss rows j r (upto-length j _) (upto-length r _)) (tested .if1 .left))
+    (all-written _ _ _ _ (plan-length ss rows j r (upto-length j _) (upto-length r _)) (tested .if1 .left))
 
 pub write-plan-spec : {M : Type 1} → statement M
 write-plan-spec =

@@ -6,45 +6,33 @@ use Prim.Native.Nat.{ℕ, _+_, _*_, _/_, _%_, _<_}
 use native.Mathlib.Omega.{arith}
 use borrow.Author.Tests.{eq-eqb, eqb-true}
 use lib.Dec.{eqb}
-use lib.ListN.{length, take, drop, getD, length-drop}
-use lib.Seq.{take-all}
+use lib.ListN.{length, take, drop, getD}
+use lib.Seq.{drop-drop}
 use Rattle.rows.specs.Lists.{All}
+use Rattle.rows.proofs.Never.{never}
 use Rattle.model.specs.Refusal.{Answer, given, refused, andThen}
 use Rattle.model.specs.declared.Board.{Board}
 use Rattle.text.specs.Hex.{Maybe, none, some, bytesOf, numberFrom, numberIn}
-use Rattle.text.specs.Input.{jobIn, entryJob, entryOf, recordSays, bytesSay, lineSays}
+use Rattle.text.specs.Records.{Form, boardForm, jobForm, sizeOf, isA, field}
+use Rattle.text.specs.Input.{boardIn, jobIn, entryJob, entryOf, recordSays, bytesSay, lineSays}
 use Rattle.text.specs.Reader.{isThere, HoldsRecord}
 use Rattle.text.specs.declared.Entry.{Entry}
 use Rattle.text.specs.declared.Entry.the-variants.{OfBoard}
 use Rattle.text.specs.declared.reader.Numbers.{Numbers}
 use Rattle.text.proofs.Digits.{orEmpty, recordIn}
 
-pub entryOf-board : (bs : List ℕ) → getD bs 0 0 ≡ 1 → length bs ≡ 5
-    → entryOf bs ≡ some (OfBoard (record { window = numberIn (take 2 (drop 1 bs)); first = numberIn (take 1 (drop 3 bs)); second = numberIn (take 1 (drop 4 bs)) }))
-unfolding entryOf
-entryOf-board [] tag size = absurd (omega arith)
-entryOf-board (b ∷ bs) tag size = rw (eq-eqb b 1 tag, eq-eqb (length bs) 4 (omega arith))
+-- Whether bytes are a record of a form, by what the code finds out.
+module _ (f : Form) (bs : List ℕ) where
+  isA-so : getD bs 0 0 ≡ f .tag → length bs ≡ sizeOf f → isA f bs ≡ true
+  isA-so tag size = rw (eq-eqb _ _ tag, eq-eqb _ _ size)
 
-pub entryOf-job : (bs : List ℕ) → getD bs 0 0 ≡ 2 → length bs ≡ 10
-    → entryOf bs ≡ entryJob (jobIn (numberIn (take 1 (drop 1 bs))) (numberIn (take 4 (drop 2 bs))) (numberIn (take 4 (drop 6 bs))))
-unfolding entryOf
-entryOf-job [] tag size = absurd (omega arith)
-entryOf-job (b ∷ bs) tag size =
-    rw (tag, eq-eqb (length bs) 9 (omega arith), take-all 4 (drop 5 bs) (omega (arith, length-drop 5 bs)))
-
--- Any other record says nothing.
-pub entryOf-none : (bs : List ℕ) → (getD bs 0 0 ≡ 1 → length bs ≡ 5 → ⊥) → (getD bs 0 0 ≡ 2 → length bs ≡ 10 → ⊥) → entryOf bs ≡ none
-unfolding entryOf
-entryOf-none [] board job = refl
-entryOf-none (b ∷ bs) board job = rw (not-both b 1 4 (λ e n. board e (omega arith)), not-both b 2 9 (λ e n. job e (omega arith)))
-  where
-    not-both : (x t n : ℕ) → (x ≡ t → length bs ≡ n → ⊥) → eqb x t && eqb (length bs) n ≡ false
-    not-both x t n never = go (eqb x t) refl (eqb (length bs) n) refl
-      where
-        go : (p : Bool) → eqb x t ≡ p → (q : Bool) → eqb (length bs) n ≡ q → p && q ≡ false
-        go true e true f = absurd (never (eqb-true x t e) (eqb-true (length bs) n f))
-        go true e false f = refl
-        go false e q f = refl
+  isA-not : (getD bs 0 0 ≡ f .tag → length bs ≡ sizeOf f → ⊥) → isA f bs ≡ false
+  isA-not never = go (eqb (getD bs 0 0) (f .tag)) refl (eqb (length bs) (sizeOf f)) refl
+    where
+      go : (p : Bool) → eqb (getD bs 0 0) (f .tag) ≡ p → (q : Bool) → eqb (length bs) (sizeOf f) ≡ q → p && q ≡ false
+      go true e true g = absurd (never (eqb-true _ _ e) (eqb-true _ _ g))
+      go true e false g = refl
+      go false e q g = refl
 
 -- The first two bytes.
 head-parts : (bs : List ℕ) → All (λ (b : ℕ). b < 256) bs → 1 < length bs
@@ -56,23 +44,27 @@ head-parts (t ∷ b ∷ bs) small size = let l : b < 256 = small .1 .0 in (omega
 
 -- What a record says, by its numbers.
 module _ (bs : List ℕ) (size : ℕ) (line : Numbers) (h : HoldsRecord bs size line) where
-  tag-is : 3 < size → line .head / 256 ≡ getD bs 0 0
+  tag-is : 1 < size → line .head / 256 ≡ getD bs 0 0
   tag-is more = rw (h .head) (head-parts bs (h .small) (omega (arith, h .size-is)) .0)
 
-  pub holds-job : size ≡ 20 → line .head / 256 ≡ 2 → entryOf bs ≡ entryJob (jobIn (line .head % 256) (line .a) (line .b))
+  pub holds-job : size ≡ sizeOf jobForm → line .head / 256 ≡ jobForm .tag → entryOf bs ≡ entryJob (jobIn (line .head % 256) (line .a) (line .b))
+  unfolding entryOf
   holds-job e tag =
-      let allowed : line .head % 256 ≡ numberIn (take 1 (drop 1 bs)) = rw (h .head) (head-parts bs (h .small) (omega (arith, h .size-is)) .1) in
-      rw (entryOf-job bs (sym (tag-is (omega arith)) ∙ tag) (omega (arith, h .size-is)), allowed, h .a, h .b)
+      let no-board : isA boardForm bs ≡ false = isA-not boardForm bs (λ _ n. omega (arith, h .size-is)) in
+      let is-job : isA jobForm bs ≡ true = isA-so jobForm bs (sym (tag-is (omega arith)) ∙ tag) (sym (h .size-is) ∙ e) in
+      let allowed : line .head % 256 ≡ field jobForm 0 bs = rw (h .head) (head-parts bs (h .small) (omega (arith, h .size-is)) .1) in
+      rw (no-board, is-job, allowed, h .a, h .b, drop-drop 1 1 bs, drop-drop 4 2 bs)
 
-  pub holds-board : size ≡ 10 → line .head / 256 ≡ 1
+  pub holds-board : size ≡ sizeOf boardForm → line .head / 256 ≡ boardForm .tag
       → entryOf bs ≡ some (OfBoard (record { window = line .head % 256 * 256 + line .a / 65536 % 256; first = line .a / 256 % 256; second = line .a % 256 }))
-  unfolding numberFrom
+  unfolding entryOf numberFrom
   holds-board e tag =
-      let n : length bs ≡ 5 = omega (arith, h .size-is) in
-      rw (entryOf-board bs (sym (tag-is (omega arith)) ∙ tag) n, h .head, h .a) (ap (λ (b : Board). some (OfBoard b)) (fields bs n (h .small)))
+      let n : length bs ≡ sizeOf boardForm = sym (h .size-is) ∙ e in
+      let is-board : isA boardForm bs ≡ true = isA-so boardForm bs (sym (tag-is (omega arith)) ∙ tag) n in
+      rw (is-board, h .head, h .a) (ap (λ (b : Board). some (OfBoard b)) (fields bs n (h .small)))
     where
-      fields : (bs : List ℕ) → length bs ≡ 5 → All (λ (b : ℕ). b < 256) bs
-          → _≡_ {A = Board} (record { window = numberIn (take 2 (drop 1 bs)); first = numberIn (take 1 (drop 3 bs)); second = numberIn (take 1 (drop 4 bs)) })
+      fields : (bs : List ℕ) → length bs ≡ sizeOf boardForm → All (λ (b : ℕ). b < 256) bs
+          → _≡_ {A = Board} (boardIn bs)
           (record { window = numberIn (take 2 bs) % 256 * 256 + numberIn (take 4 (drop 2 bs)) / 65536 % 256; first = numberIn (take 4 (drop 2 bs)) / 256 % 256; second = numberIn (take 4 (drop 2 bs)) % 256 })
       fields [] n small = absurd (omega arith)
       fields (t ∷ []) n small = absurd (omega arith)
@@ -90,9 +82,13 @@ module _ (bs : List ℕ) (size : ℕ) (line : Numbers) (h : HoldsRecord bs size 
           let second : numberIn (b4 ∷ []) ≡ numberIn (b2 ∷ b3 ∷ b4 ∷ []) % 256 = omega arith in
           λ i. record { window = window i; first = first i; second = second i }
 
-  pub holds-none : (size ≡ 20 → line .head / 256 ≡ 2 → ⊥) → (size ≡ 10 → line .head / 256 ≡ 1 → ⊥) → entryOf bs ≡ none
+  pub holds-none : (size ≡ sizeOf jobForm → line .head / 256 ≡ jobForm .tag → ⊥) → (size ≡ sizeOf boardForm → line .head / 256 ≡ boardForm .tag → ⊥)
+      → entryOf bs ≡ none
+  unfolding entryOf
   holds-none job board =
-      entryOf-none bs (λ tag n. board (omega (arith, h .size-is)) (tag-is (omega (arith, h .size-is)) ∙ tag)) (λ tag n. job (omega (arith, h .size-is)) (tag-is (omega (arith, h .size-is)) ∙ tag))
+      let no-board : isA boardForm bs ≡ false = isA-not boardForm bs (λ tag n. board (h .size-is ∙ n) (tag-is (omega (arith, h .size-is)) ∙ tag)) in
+      let no-job : isA jobForm bs ≡ false = isA-not jobForm bs (λ tag n. job (h .size-is ∙ n) (tag-is (omega (arith, h .size-is)) ∙ tag)) in
+      rw (no-board, no-job)
 
 -- A line that spells no record, and one that does.
 lineSays-cases : (i : ℕ) (m : Maybe (List ℕ)) → (isThere m ≡ false → bytesSay i m ≡ refused 8 i) × (isThere m ≡ true → bytesSay i m ≡ recordSays i (entryOf (orEmpty m)))
@@ -110,5 +106,5 @@ pub given-there : {A : Type 0} (i : ℕ) (line : List ℕ) (f : Entry → Answer
 given-there {A} i line f x e = go (bytesOf line) e
   where
     go : (m : Maybe (List ℕ)) → andThen (bytesSay i m) f ≡ given x → isThere m ≡ true
-    go none e = absurd (let z : _≡_ {A = ℕ} 0 1 = cc in omega arith)
+    go none e = never (cc)
     go (some bs) e = refl

@@ -1,5 +1,5 @@
--- The whole example of document 01, from the bytes of its text to what its answer says; and answers that are wrong in one place and say nothing.
--- Assumes nothing.
+-- The whole example of docs/SPEC.md, "The text", from the bytes of its text to what its answer says; and answers that are wrong in one place and say
+-- nothing. Each is worked out by computation. Assumes nothing.
 use mathlib.Core.List.{List, [], _∷_, map}
 use mathlib.Core.Path.{_≡_, refl}
 use Prim.Native.Char.{code}
@@ -7,6 +7,7 @@ use Prim.Native.Nat.{ℕ}
 use Prim.Native.String.{String}
 use Prim.Native.String as S
 use lib.ListN.{replicate}
+use Rattle.rows.specs.Lists.{lowest}
 use Rattle.model.specs.Board.{roomOf}
 use Rattle.model.specs.Refusal.{given, refused}
 use Rattle.model.specs.Split.{share}
@@ -14,7 +15,6 @@ use Rattle.model.specs.declared.Kind.{Kind}
 use Rattle.model.specs.declared.Kind.the-variants.{First, Second}
 use Rattle.model.specs.declared.Slice.{Slice}
 use Rattle.legal.specs.Legal.{legalOf}
-use Rattle.rows.specs.Lists.{lowest}
 use Rattle.split.specs.Home.{atHome, keepOf, giveOf}
 use Rattle.split.specs.Steps.{better, nextFrom, movedOf, stepOf, stepsOf}
 use Rattle.split.specs.Shares.{settled, byOver}
@@ -23,7 +23,7 @@ use Rattle.text.specs.Hex.{none, some, linesOf, nibbleOf, pairsOf, bytesOf, dig
 use Rattle.text.specs.Input.{jobIn, entryOf, jobsFrom, inputFrom, inputOf}
 use Rattle.text.specs.Output.{shareRecords}
 use Rattle.clampfern.specs.Answer.{answerText}
-use Rattle.clampfern.specs.Said.{allRead, shareIn, sharesFrom, sliceIn, planIn, recordsSay, saidOf}
+use Rattle.clampfern.specs.Said.{allRead, shareRead, sharesRead, sliceRead, planRead, recordsSay, saidOf}
 
 -- The bytes of a text as it is printed.
 unfoldable pub bytes : String → List ℕ
@@ -44,13 +44,13 @@ pub example-said : saidOf (bytes "100203\n110000060000\n110100040003\n1201010000
       shares = share 6 0 ∷ share 4 3 ∷ [];
       slices = slice 1 First 0 0 4 ∷ slice 0 First 0 4 6 ∷ slice 1 Second 0 7 3 ∷ [];
     }))
-unfolding bytes linesOf nibbleOf pairsOf bytesOf numberFrom allRead shareIn sharesFrom sliceIn planIn recordsSay saidOf
+unfolding bytes linesOf nibbleOf pairsOf bytesOf numberFrom allRead shareRead sharesRead sliceRead planRead recordsSay saidOf
 example-said = refl
 
 -- The least of each: no job, and a refusal; in capitals, and with no line feed at the end.
 pub least-said : map (λ (s : String). saidOf (bytes s)) ("100000\n" ∷ "1f0540\n" ∷ "1F0540" ∷ [])
     ≡ some (given (record { shares = []; slices = [] })) ∷ some (refused 5 64) ∷ some (refused 5 64) ∷ []
-unfolding bytes linesOf nibbleOf pairsOf bytesOf numberFrom allRead shareIn sharesFrom sliceIn planIn recordsSay saidOf
+unfolding bytes linesOf nibbleOf pairsOf bytesOf numberFrom allRead shareRead sharesRead sliceRead planRead recordsSay saidOf
 least-said = refl
 
 -- The example with one thing wrong, row by row, and what says nothing by itself.
@@ -83,5 +83,5 @@ wrong =
     ∷ []
 
 pub nothing-said : map (λ (s : String). saidOf (bytes s)) wrong ≡ replicate 12 none
-unfolding bytes linesOf nibbleOf pairsOf bytesOf numberFrom allRead shareIn sharesFrom sliceIn planIn recordsSay saidOf
+unfolding bytes linesOf nibbleOf pairsOf bytesOf numberFrom allRead shareRead sharesRead sliceRead planRead recordsSay saidOf
 nothing-said = refl

@@ -1,4 +1,4 @@
--- The whole example of document 01, read and written by the definitions, and lines that are refused.
+-- The whole example of docs/SPEC.md, "The text", read and written by the definitions, and texts that are refused. Each is worked out by computation.
 -- Assumes nothing.
 use mathlib.Core.List.{List, [], _∷_, map}
 use mathlib.Core.Path.{_≡_, refl}
