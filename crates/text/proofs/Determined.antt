@@ -1,23 +1,22 @@
--- The promises of this crate determine their results: each is taken back from what it says, and every byte of a lent text is told.
+-- The contracts of this crate determine their results: each is taken back from what it says, and every byte of a lent text is told.
 --   read ↦ read-once, the answer with both columns after the call
 --   write_plan ↦ write-plan-once, write_refusal ↦ write-refusal-once, the answer with the lent text after the call
 -- Assumes nothing.
 use mathlib.Core.List.{List}
 use mathlib.Core.Path.{_≡_, refl, sym, ap, _∙_}
-use Prim.Native.Nat.{ℕ, min}
-use Rattle.model.specs.Columns.{sharesIn}
-use Rattle.model.specs.Limits.{jobsMost, slicesMost}
-use Rattle.model.specs.Packed.{slicesIn}
+use Prim.Native.Nat.{ℕ}
 use Rattle.model.specs.Refusal.{Answer}
 use Rattle.model.specs.declared.Refusal.{Refusal}
-use Rattle.model.specs.declared.Refusal.the-variants.{TooShort}
-use Rattle.model.proofs.Determined.{Once, said-once, refusal-back, answerOf}
+use Rattle.model.proofs.Determined.{Determines, Once, said-once, refusal-back, answerOf}
 use Rattle.text.specs.Input.{Head, saysReading, Reads}
-use Rattle.text.specs.Output.{planText, refusedText, saysWritten, Writes}
+use Rattle.text.specs.Output.{saysWritten, Writes}
 use Rattle.text.specs.declared.Reading.{Reading}
 use Rattle.text.specs.declared.Reading.the-variants.{Set, Refused}
 use Rattle.text.specs.declared.Written.{Written}
 use Rattle.text.specs.declared.Written.the-variants.{Bytes, Refused as NotWritten}
+use Rattle.text.proofs.reader.read
+use Rattle.text.proofs.writer.write_plan
+use Rattle.text.proofs.writer.write_refusal
 
 -- What an answer on an input is taken back to.
 abbrev readingOf : Answer Head → Reading
@@ -28,12 +27,10 @@ reading-back (Set b n) = refl
 reading-back (Refused r) = ap Refused (refusal-back r)
 
 -- What is read: the answer, and both columns after the call.
-pub read-once : (text c1 c2 : List ℕ) → Once (λ (r : Reading × List ℕ × List ℕ). Reads text c1 c2 (r .0) (r .1) (r .2))
-read-once text c1 c2 r s p q =
+pub read-once : Determines read.ended read.Reads.Learnt
+read-once κs args r s p q =
     let answer : r .0 ≡ s .0 = said-once saysReading readingOf reading-back _ (r .0) (s .0) (p .says) (q .says) in
-    let first : r .1 ≡ s .1 = p .first ∙ sym (q .first) in
-    let second : r .2 ≡ s .2 = p .second ∙ sym (q .second) in
-    λ i. (answer i, first i, second i)
+    λ i. (answer i, (tt, ((p .first ∙ sym (q .first)) i, ((p .second ∙ sym (q .second)) i, tt))))
 
 abbrev writtenOf : Answer ℕ → Written
 writtenOf = answerOf Bytes NotWritten
@@ -49,9 +46,12 @@ writes-once short before lines r s p q =
     let text : r .1 ≡ s .1 = cc in
     λ i. (answer i, text i)
 
-pub write-plan-once : (first second : List ℕ) (n : ℕ) (slices : List ℕ) (k : ℕ) (before : List ℕ)
-    → Once (λ (r : Written × List ℕ). Writes TooShort before (r .1) (planText (sharesIn (min n jobsMost) first second) (slicesIn (min k slicesMost) slices)) (r .0))
-write-plan-once first second n slices k before = writes-once TooShort before (planText (sharesIn (min n jobsMost) first second) (slicesIn (min k slicesMost) slices))
+pub write-plan-once : Determines write_plan.ended write_plan.Reads.Learnt
+write-plan-once κs args r s p q =
+    let same = writes-once _ _ _ (r .0, r .1 .1 .1 .1 .1 .1 .0) (s .0, s .1 .1 .1 .1 .1 .1 .0) p q in
+    λ i. (same i .0, (tt, (tt, (tt, (tt, (tt, (same i .1, tt)))))))
 
-pub write-refusal-once : (number place : ℕ) (before : List ℕ) → Once (λ (r : Written × List ℕ). Writes TooShort before (r .1) (refusedText number place) (r .0))
-write-refusal-once number place before = writes-once TooShort before (refusedText number place)
+pub write-refusal-once : Determines write_refusal.ended write_refusal.Reads.Learnt
+write-refusal-once κs args r s p q =
+    let same = writes-once _ _ _ (r .0, r .1 .1 .1 .0) (s .0, s .1 .1 .1 .0) p q in
+    λ i. (same i .0, (tt, (tt, (same i .1, tt))))
