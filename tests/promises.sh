@@ -1,11 +1,21 @@
 #!/usr/bin/env bash
 # docs/PROMISES.md and the must-fail edits speak of each other. A name in brackets is an edit of the crate whose part it stands in, and each edit is
 # named so. A row of a public function, in a table whose first column is `function`, names two edits or more, or says why it names fewer:
-# `one edit, since ..` or `no edit, since ..`.
+# `one edit, since ..` or `no edit, since ..`. The part "What has to be believed" lists the files of definitions that do not open as internal.
 set -u -o pipefail
 cd "$(dirname "$0")/.." || exit 2
 shopt -s nullglob
 edits=(crates/*/must-fail/*.edit)
+
+# The files that a reader has to believe: those that are listed, and those that are there.
+believed=$(sed -n '/^## What has to be believed/,/^## [^W]/s/^| \([^|]*antt\) |.*/\1/p' docs/PROMISES.md | tr -d ' ' | tr ',' '\n' | LC_ALL=C sort)
+public=$(for file in crates/*/specs/*.antt; do
+    [[ $file == */Lib.antt ]] || head -n 1 "$file" | grep -q '^-- Internal: no public promise cites this\.' || echo "${file#crates/}"
+done | LC_ALL=C sort)
+if [ "$believed" != "$public" ]; then
+    diff <(echo "$believed") <(echo "$public") | sed -n 's/^< /listed, and internal or not there: /p; s/^> /not listed: /p'
+    exit 1
+fi
 
 awk -v edits="${edits[*]}" '
     function wrong(text) { print text; bad = 1 }
