@@ -121,7 +121,7 @@ module _ {M : Type 1} (𝓤 : URA M) (H : Heap 𝓤) (A : Atoms 𝓤) (W : Given
       At i = ‵ (froom (ty Column) l₀ 0) ∷ ‵ (fat fullShare (ty K.the-row) l₁ 0 kv) ∷ ‵ (fat fullShare (rows-ty R) l₂ 0 s) ∷ ‵ (fat fullShare word l₃ 0 (vint w64 n)) ∷ ‵ (row u32 fullShare (mixed (i .0)) l₄ 0) ∷ ‵ (fat fullShare word l₅ 0 (vint w64 (i .0)))
           ∷ (rooms 𝓤 H (drop 6 En) ++ (‵ (rights 𝓤 H En) ∷ ‵ (row R q′ js b o) ∷ looked 𝓤 R js b o κ q γ s q′))
 
-      -- a turn that writes a cost: the slice's job is loaded, and its cost on the kind is stored to the column
+      -- a turn that writes a cost: the slice's job, of 12 bytes, is loaded, and its cost on the kind is stored to the column in 4
       more : (i : Upto n) → i .0 < n → Turn W 𝓣 En code-mir.turn-1 code-mir.t-4 Post n At i
       more i less =
           let j : Job = job-at (i .0) in

@@ -86,7 +86,7 @@ module _ {M : Type 1} (𝓤 : URA M) (H : Heap 𝓤) (A : Atoms 𝓤) (W : Given
     At i = ‵ (froom tyUnit l₀ 0) ∷ ‵ (fat fullShare (table-ty R) l₁ 0 s) ∷ ‵ (fat fullShare (ty Column) l₂ 0 v₁) ∷ ‵ (fat fullShare (ty Column) l₃ 0 v₂) ∷ ‵ (fat fullShare word l₄ 0 (vint w64 n)) ∷ ‵ (row u16 fullShare xs l₅ 0) ∷ ‵ (row u16 fullShare zs l₆ 0) ∷ ‵ (fat fullShare word l₇ 0 (vint w64 (i .0)))
         ∷ (rooms 𝓤 H (drop 8 En) ++ (‵ (rights 𝓤 H En) ∷ ‵ (row R fullShare (made make ys (i .0)) b o) ∷ opened 𝓤 R ys b o κ q γ))
 
-    -- a turn that writes a row: the columns' numbers are loaded, the row is made of them and stored to the table
+    -- a turn that writes a row: the columns' numbers, of 2 bytes, are loaded, the row is made of them and stored to the table in 8
     more : (i : Upto n) → i .0 < n → Turn W 𝓣 En code-mir.turn-1 code-mir.t-5 Post n At i
     more i less =
         let fits : i .0 * 8 < 2 ^ 64 = omega arith in

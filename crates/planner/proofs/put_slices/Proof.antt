@@ -82,7 +82,7 @@ module _ {M : Type 1} (𝓤 : URA M) (H : Heap 𝓤) (A : Atoms 𝓤) (W : Given
     At i = ‵ (froom tyUnit l₀ 0) ∷ ‵ (fat fullShare (table-ty R) l₁ 0 s) ∷ ‵ (fat fullShare (ty Column) l₂ 0 v) ∷ ‵ (fat fullShare word l₃ 0 (vint w64 n)) ∷ ‵ (row u64 fullShare xs l₄ 0) ∷ ‵ (fat fullShare word l₅ 0 (vint w64 (i .0)))
         ∷ (rooms 𝓤 H (drop 6 En) ++ (‵ (rights 𝓤 H En) ∷ ‵ (row R fullShare (made make ys (i .0)) b o) ∷ opened 𝓤 R ys b o κ q γ))
 
-    -- a turn that writes a row: the column's number is loaded, the row is made of it and stored to the table
+    -- a turn that writes a row: the column's number is loaded, the row is made of it and stored to the table (each has 8 bytes)
     more : (i : Upto n) → i .0 < n → Turn W 𝓣 En code-mir.turn-1 code-mir.t-4 Post n At i
     more i less =
         let fits : i .0 * 8 < 2 ^ 64 = omega arith in
