@@ -1,17 +1,22 @@
--- `facts::plan_lent` meets its contract: a walk of its MIR, by hand, with one call and no branch. Each array's first rows are lent for a lifetime that is made for the call, and come back after it (`rows`, `Lent/Loan.antt`). Of the contract of `planner::plan` it uses nothing but that the tables come back, so that it stands whatever `plan` promises.
+-- `facts::plan_lent` meets its contract: a walk of its MIR, by hand, with one call and no branch. Each array's first rows are lent for a lifetime
+-- that is made for the call, and come back after it (`rows`, `Lent/Loan.antt`). Of the contract of `planner::plan` it uses nothing but that the
+-- tables come back, so that it stands whatever `plan` promises.
 -- Of the jobs' lifetime, place and so on the names have no mark, of the share table's they have ₁, and of the slice table's ₂.
--- Positions: local i of the 20 stands at 2·(19 − i) with its right to be freed right after it, then come the tokens and what the parameters own. The comments say what stands before _19, and where each local then is.
+-- Positions: local i of the 20 stands at 2·(19 − i) with its right to be freed right after it, then come the tokens and what the parameters own. The
+-- comments say what stands before _19, and where each local then is.
 -- Assumes nothing.
 use mathlib.Core.Path.{_≡_, refl, sym, subst}
+use mathlib.Core.List.{[], _∷_, _++_, List}
 use Prim.Native.Nat.{ℕ, _<_, _≤_, _^_}
 use native.Mathlib.Omega.{arith}
-use mathlib.Core.List.{[], _∷_, _++_, List}
+use borrow.Struct.Items.{is-same}
 use lib.ListN.{length, take, drop}
 use lib.Seq.{length-take-le}
 use denote.Struct.Laws as LL
 use denote.Enum.Laws as LE
-use borrow.Struct.Items.{is-same}
-use Rattle.rows.proofs.Lent.Logic.{URA, fullShare, Ty, named, erased, imm, mut, w64, tyRef, Val, vint, vstruct, vnil, vcons, SProp, ent, emp, id⊢, Fml, GName, ftrue, fat, flft, Memory, Routine, Heap, Calls, Loops, WpFn, Tables, Atoms, Fun, givenOf, tables, tablesOf, Given, Item, ‵, raw, some, later, given, _⊛_, ⋆, _$_, _∵_, !, qed, by, move, keep, drops, use1, use2, use3, split, join, pick, learn, rewrite, fsplit, fjoin, suffices, await, done, look, init, forget, stop, from, load, addr, of-opd, and-then, no-more, assigns, land, returns, enter, alloc1, alloc0, params1, pass1, pass0, free1, free0, agg, lft-new, lft-end, FmC, fmOf, WpFn-mono, RattleType, owns, pointee, Is, Tells, Makes, shows, uint-makes, uint-vals, uint-tells, usize, Array, array-vals, array-tells, array-typed, array-makes, RefT, sliceTy, sliceVal, ShrSlice, MutSlice, Room, only, owned, peeks, nothing, onEntry, Meets, tripleOf, Contract, Triple, calls-at, ensured, lasts, atExit, entered, cited, needs, Stays, stay-none, walkOf, goes-none, Walks, ends-at, walked, walk-meets, yes}
+use Rattle.rows.proofs.Lent.Logic.{URA, fullShare, Ty, named, erased, imm, mut, w64, tyRef, Val, vint, vstruct, vnil, vcons, SProp, ent, emp, id⊢, Fml, GName, ftrue, fat, flft, Memory, Routine, Heap, Calls, Loops, WpFn, Tables, Atoms, Fun, givenOf, tables, tablesOf, Given, Item, ‵, raw, some, later, given, _⊛_, ⋆, _$_, _∵_, !, qed, by, move, keep, drops, use1, use2, use3, split, join, pick, learn, rewrite, fsplit, fjoin, suffices, await, done, look, init, forget, stop, from, load, addr, of-opd, and-then, no-more, assigns, land, returns, enter, alloc1, alloc0, params1, pass1, pass0, free1, free0, agg, lft-new, lft-end, FmC, fmOf, WpFn-mono, RattleType, owns, pointee, Is, shows, uint-vals, uint-tells, usize, Array, array-vals, array-tells, RefT, sliceTy, sliceVal, ShrSlice, MutSlice, Room, only, owned, peeks, nothing, onEntry, Meets, tripleOf, Contract, Triple, calls-at, ensured, lasts, atExit, entered, cited, needs, Stays, stay-none, walkOf, goes-none, Walks, ends-at, walked, walk-meets, yes}
+use Rattle.rows.proofs.Lent.Element.{Element, number, struct, enum, array, has}
+use Rattle.rows.proofs.Lent.Loan.{holds, lent-as, as-val, LentTable, LentRows, lends, back, lends-shared, back-shared}
 use Rattle.model.specs.Limits.{jobsMost, slicesMost}
 use Rattle.model.specs.declared.Board.{Board}
 use Rattle.model.specs.declared.Job.{Job}
@@ -33,7 +38,6 @@ use Rattle.planner.proofs.plan.Symbol as g-def
 use Rattle.planner.proofs.plan.Symbol.{name as #g}
 use Rattle.planner.proofs.plan.Met as g-thm
 use Rattle.facts.specs.declared.Lent.{Lent}
-use Rattle.rows.proofs.Lent.Loan.{holds, lent-as, as-val, LentTable, LentRows, lends, back, lends-shared, back-shared}
 use Rattle.facts.proofs.Lent as P
 use Rattle.facts.proofs.Lent.Laws as P′
 use Rattle.facts.proofs.plan_lent.Key.{name as #key}
@@ -66,16 +70,6 @@ share-vals = LL.vals Sh.the-type Sh′.the-laws
 abbrev slice-vals : SliceRow → List Val
 slice-vals = LL.vals Sl.the-type Sl′.the-laws
 
--- the relations tell the machine values
-abbrev tells : Tells J.the-row (Is J.the-row) job-vals
-tells = LE.tells J.the-type J′.the-laws
-
-abbrev tells₁ : Tells Sh.the-row (Is Sh.the-row) share-vals
-tells₁ = LL.tells Sh.the-type Sh′.the-laws
-
-abbrev tells₂ : Tells Sl.the-row (Is Sl.the-row) slice-vals
-tells₂ = LL.tells Sl.the-type Sl′.the-laws
-
 abbrev stayed : Stays (f.ended .signature .params) (f.ended .kept)
 stayed = (stay-none (λ _. B.the-row) yes, (stay-none (λ _. Jobs) yes, (stay-none (λ _. usize) yes, (stay-none (λ _. Shares) yes, (stay-none (λ _. usize) yes, (stay-none (λ _. Slices) yes, (stay-none (λ _. usize) yes, tt)))))))
 
@@ -101,14 +95,14 @@ module _ {M : Type 1} (𝓤 : URA M) (H : Heap 𝓤) (A : Atoms 𝓤) (W : Given
   abbrev Post : Val → SProp 𝓤
   Post = walkOf 𝓤 H A f.ended stayed (f.clauses 𝓤 H A mem run) .post ((tt, tt, tt, a, vals), tt)
 
-  makes : Makes 𝓤 H A J.the-row (Is J.the-row)
-  makes = LE.makes J.the-type J′.the-plain 𝓤 H A
+  abbrev job-rows : Element W
+  job-rows = enum W J.the-type J′.the-laws J′.the-plain tt
 
-  makes₁ : Makes 𝓤 H A Sh.the-row (Is Sh.the-row)
-  makes₁ = LL.makes Sh.the-type Sh′.the-plain 𝓤 H A
+  abbrev share-rows : Element W
+  share-rows = struct W Sh.the-type Sh′.the-laws Sh′.the-plain
 
-  makes₂ : Makes 𝓤 H A Sl.the-row (Is Sl.the-row)
-  makes₂ = LL.makes Sl.the-type Sl′.the-plain 𝓤 H A
+  abbrev slice-rows : Element W
+  slice-rows = struct W Sl.the-type Sl′.the-laws Sl′.the-plain
 
   -- the record returned, at the machine values of its fields
   abbrev mach : Val → Val → Val → Val
@@ -149,10 +143,10 @@ module _ {M : Type 1} (𝓤 : URA M) (H : Heap 𝓤) (A : Atoms 𝓤) (W : Given
   exits : (d : Lent) (v : Val) → Is P.the-row d (v ∷ []) → ent 𝓤 (emp 𝓤) (Post v)
   exits d v is =
       qed W [] ∵ suffices ! _ (ends-at 𝓤 H A f.ended stayed (f.clauses 𝓤 H A mem run) W ((tt, tt, tt, a, vals), tt) v d (tt, (tt, (tt, (tt, (tt, (tt, (tt, tt))))))) (tt, (tt, (tt, (tt, (tt, (tt, (tt, tt)))))))) $
-      owned ! P.the-row (Is P.the-row) (LL.makes P.the-type P′.the-plain 𝓤 H A) d _ is $ nothing ! $ owned ! usize (Is usize) (uint-makes 𝓤 H A W w64) k _ (refl, k-fits) $ fjoin ! $
-      owned ! Slices (Is Slices) (array-makes 𝓤 H A W Sl.the-row makes₂ slicesMost) ls _ ls-is $ fjoin ! $ owned ! usize (Is usize) (uint-makes 𝓤 H A W w64) m _ (refl, m-fits) $ fjoin ! $
-      owned ! Shares (Is Shares) (array-makes 𝓤 H A W Sh.the-row makes₁ jobsMost) ss _ ss-is $ fjoin ! $ owned ! usize (Is usize) (uint-makes 𝓤 H A W w64) n _ (refl, n-fits) $ fjoin ! $
-      owned ! Jobs (Is Jobs) (array-makes 𝓤 H A W J.the-row makes jobsMost) js _ js-is $ fjoin ! $ owned ! B.the-row (Is B.the-row) (LL.makes B.the-type B′.the-plain 𝓤 H A) board _ board-is $ fjoin ! $
+      owned ! P.the-row (Is P.the-row) (LL.makes P.the-type P′.the-plain 𝓤 H A) d _ is $ nothing ! $ has ! (number W w64) k (refl, k-fits) $ fjoin ! $
+      has ! (array W slice-rows slicesMost) ls ls-is $ fjoin ! $ has ! (number W w64) m (refl, m-fits) $ fjoin ! $
+      has ! (array W share-rows jobsMost) ss ss-is $ fjoin ! $ has ! (number W w64) n (refl, n-fits) $ fjoin ! $
+      has ! (array W job-rows jobsMost) js js-is $ fjoin ! $ owned ! B.the-row (Is B.the-row) (LL.makes B.the-type B′.the-plain 𝓤 H A) board _ board-is $ fjoin ! $
       join ! $ nothing ! $ join ! $ nothing ! $ move ! (1 ∷ 0 ∷ []) $ done !
 
   -- a loan's rows: as jobs, as a share table and as a slice table
@@ -190,9 +184,9 @@ module _ {M : Type 1} (𝓤 : URA M) (H : Heap 𝓤) (A : Atoms 𝓤) (W : Given
   module _ (C : Calls 𝓤 H) (Λ : Loops 𝓤 H) (fm : FmC 𝓤 H (W .laws) C) (known : Triple 𝓤 (C #g) G) where
     walk : ent 𝓤 (onEntry 𝓤 H A f.signature tt tt a vals) (WpFn 𝓤 H C Λ code.function (bv ∷ jv ∷ vint w64 n ∷ sv ∷ vint w64 m ∷ lv ∷ vint w64 k ∷ []) Post)
     walk =
-        let js-typed = array-typed J.the-row (LE.lawful J.the-type J′.the-laws 𝓤 H A W tt .typed) jobsMost in
-        let ss-typed = array-typed Sh.the-row (LL.lawful Sh.the-type Sh′.the-laws 𝓤 H A W .typed) jobsMost in
-        let ls-typed = array-typed Sl.the-row (LL.lawful Sl.the-type Sl′.the-laws 𝓤 H A W .typed) slicesMost in
+        let js-typed = array W job-rows jobsMost .lawful in
+        let ss-typed = array W share-rows jobsMost .lawful in
+        let ls-typed = array W slice-rows slicesMost .lawful in
         qed W (‵ ftrue ∷ ‵ (owns (B.the-row ∷ Jobs ∷ usize ∷ Shares ∷ usize ∷ Slices ∷ usize ∷ []) a vals) ∷ []) ∵ enter ! C Λ code.function (bv ∷ jv ∷ vint w64 n ∷ sv ∷ vint w64 m ∷ lv ∷ vint w64 k ∷ []) _ $
         alloc1 ! (λ l₀. alloc1 ! (λ l₁. alloc1 ! (λ l₂. alloc1 ! (λ l₃. alloc1 ! (λ l₄. alloc1 ! (λ l₅. alloc1 ! (λ l₆. alloc1 ! (λ l₇. alloc1 ! (λ l₈. alloc1 ! (λ l₉. alloc1 ! (λ l₁₀. alloc1 ! (λ l₁₁. alloc1 ! (λ l₁₂. alloc1 ! (λ l₁₃. alloc1 ! (λ l₁₄. alloc1 ! (λ l₁₅. alloc1 ! (λ l₁₆. alloc1 ! (λ l₁₇. alloc1 ! (λ l₁₈. alloc1 ! (λ l₁₉. alloc0 ! $ params1 ! $
         pass1 ! (init ! 36 refl (LL.lawful B.the-type B′.the-laws 𝓤 H A W .typed board _ board-is .0)) $ pass1 ! (init ! 34 refl (js-typed js _ js-is .0)) $ pass1 ! (init ! 32 refl (tt, record { fits = n-fits })) $
@@ -209,9 +203,9 @@ module _ {M : Type 1} (𝓤 : URA M) (H : Heap 𝓤) (A : Atoms 𝓤) (W : Given
         rewrite ! 12 (λ (c : ℕ). ‵ (fat fullShare jobs-ty l₁₃ 0 (sliceVal (l₈, 0) c))) (sym count) refl $ rewrite ! 8 (λ (c : ℕ). ‵ (fat fullShare (table-ty Sh.the-row) l₁₅ 0 (sliceVal (l₉, 0) c))) (sym count₁) refl $
         rewrite ! 4 (λ (c : ℕ). ‵ (fat fullShare (table-ty Sl.the-row) l₁₇ 0 (sliceVal (l₁₀, 0) c))) (sym count₂) refl $
         -- each array is lent, the last first: _10 (18), _9 (20), _8 (22), which a new lifetime and what is in front of _19 shift
-        lft-new ! tt (λ ν₂. move ! (19 ∷ []) $ use1 W (later (some (λ (γ₂ : GName). ‵ (lent₂ ν₂ l₁₀ γ₂) ⊛ ‵ (LentTable Sl.the-row ls k l₁₀ (ν₂ ∷ []) γ₂)))) (lends Sl.the-row tt slice-vals tells₂ slicesMost 𝓤 H A W ls k l₁₀ makes₂ lv ls-is room₂ (named 2) (ν₂ ∷ [])) $ await ! tt $ pick ! (λ γ₂. split ! $ move ! (2 ∷ 0 ∷ []) $ join ! $
-        lft-new ! tt (λ ν₁. move ! (22 ∷ []) $ use1 W (later (some (λ (γ₁ : GName). ‵ (lent₁ ν₁ l₉ γ₁) ⊛ ‵ (LentTable Sh.the-row ss m l₉ (ν₁ ∷ []) γ₁)))) (lends Sh.the-row tt share-vals tells₁ jobsMost 𝓤 H A W ss m l₉ makes₁ sv ss-is room₁ (named 1) (ν₁ ∷ [])) $ await ! tt $ pick ! (λ γ₁. split ! $ move ! (2 ∷ 0 ∷ []) $ join ! $
-        lft-new ! tt (λ ν. move ! (25 ∷ []) $ use1 W (later (some (λ (γ : GName). ‵ (lent ν l₈ γ) ⊛ ‵ (LentRows J.the-row js n l₈ (ν ∷ []))))) (lends-shared J.the-row tt job-vals tells jobsMost 𝓤 H A W js n l₈ makes jv js-is room (named 0) (ν ∷ [])) $ await ! tt $ pick ! (λ γ. split ! $ move ! (2 ∷ 0 ∷ []) $ join ! $
+        lft-new ! tt (λ ν₂. move ! (19 ∷ []) $ use1 W (later (some (λ (γ₂ : GName). ‵ (lent₂ ν₂ l₁₀ γ₂) ⊛ ‵ (LentTable Sl.the-row ls k l₁₀ (ν₂ ∷ []) γ₂)))) (lends slice-rows slicesMost ls k l₁₀ lv ls-is room₂ (named 2) (ν₂ ∷ [])) $ await ! tt $ pick ! (λ γ₂. split ! $ move ! (2 ∷ 0 ∷ []) $ join ! $
+        lft-new ! tt (λ ν₁. move ! (22 ∷ []) $ use1 W (later (some (λ (γ₁ : GName). ‵ (lent₁ ν₁ l₉ γ₁) ⊛ ‵ (LentTable Sh.the-row ss m l₉ (ν₁ ∷ []) γ₁)))) (lends share-rows jobsMost ss m l₉ sv ss-is room₁ (named 1) (ν₁ ∷ [])) $ await ! tt $ pick ! (λ γ₁. split ! $ move ! (2 ∷ 0 ∷ []) $ join ! $
+        lft-new ! tt (λ ν. move ! (25 ∷ []) $ use1 W (later (some (λ (γ : GName). ‵ (lent ν l₈ γ) ⊛ ‵ (LentRows J.the-row js n l₈ (ν ∷ []))))) (lends-shared job-rows jobsMost js n l₈ jv js-is room (named 0) (ν ∷ [])) $ await ! tt $ pick ! (λ γ. split ! $ move ! (2 ∷ 0 ∷ []) $ join ! $
         -- [the jobs' token and slice; what their lender keeps; the shares'; the slices' (4, 5); _19 (6); …]
         move ! (0 ∷ 2 ∷ 4 ∷ []) $ use3 W (raw (G .pre (to-g l₈ l₉ l₁₀ ν ν₁ ν₂ γ γ₁ γ₂))) (goes-g l₈ l₉ l₁₀ ν ν₁ ν₂ γ γ₁ γ₂) $
         -- [what is asked; what the three lenders keep; _19 (4); …; _11 (20); …; _7 (25); …]
@@ -223,12 +217,12 @@ module _ {M : Type 1} (𝓤 : URA M) (H : Heap 𝓤) (A : Atoms 𝓤) (W : Given
         fsplit ! $ drops ! $ fsplit ! $ drops ! $ fsplit ! $ fsplit ! $ move ! (1 ∷ []) $ drops ! $ move ! (1 ∷ []) $ fsplit ! $ fsplit ! $ move ! (1 ∷ []) $ drops ! $ move ! (1 ∷ []) $ drops ! $
         -- [the last slices; the last shares; the tokens and the answer; what the lenders keep (3, 4, 5); _19 (6); …]
         move ! (2 ∷ []) $ split ! $ move ! (1 ∷ []) $ peeks ! E.the-row (Is E.the-row) (shows 𝓤 H A E.the-row) r (w ∷ []) (λ is-r. land ! (from ! (stop !)) (init ! 23 refl (LE.lawful E.the-type E′.the-laws 𝓤 H A W tt .typed r _ is-r .0)) $ drops ! $
-        -- [the tokens; the last slices; the last shares; what the lenders keep (3, 4, 5); _19 (6); …]: each loan is ended, and its slot is whole again
+        -- [the tokens; the last slices; the last shares; what the lenders keep (3, 4, 5); _19 (6); …]: each loan ends, and its slot is whole again
         let shares : List ShareRow = zs .1 .1 .0 ++ drop m ss in
         let slices : List SliceRow = zs .1 .1 .1 .0 ++ drop k ls in
-        split ! $ lft-end ! tt $ move ! (0 ∷ 4 ∷ []) $ use2 W (later (given (Is Jobs (take n js ++ drop n js) (array-vals job-vals (take n js ++ drop n js))) (‵ (holds J.the-row jobsMost l₈ (only (array-vals job-vals (take n js ++ drop n js))))))) (back-shared J.the-row tt job-vals tells jobsMost 𝓤 H A W js n l₈ (ν ∷ []) len) $ await ! tt $ learn ! (λ is-j.
-        move ! (1 ∷ []) $ split ! $ lft-end ! tt $ move ! (0 ∷ 5 ∷ 4 ∷ []) $ use3 W (later (given (Is Shares shares (array-vals share-vals shares)) (‵ (holds Sh.the-row jobsMost l₉ (only (array-vals share-vals shares)))))) (back Sh.the-row tt share-vals tells₁ jobsMost 𝓤 H A W ss m l₉ (ν₁ ∷ []) γ₁ (zs .1 .1 .0) len₁) $ await ! tt $ learn ! (λ is-s.
-        move ! (1 ∷ []) $ split ! $ lft-end ! tt $ move ! (0 ∷ 5 ∷ 4 ∷ []) $ use3 W (later (given (Is Slices slices (array-vals slice-vals slices)) (‵ (holds Sl.the-row slicesMost l₁₀ (only (array-vals slice-vals slices)))))) (back Sl.the-row tt slice-vals tells₂ slicesMost 𝓤 H A W ls k l₁₀ (ν₂ ∷ []) γ₂ (zs .1 .1 .1 .0) len₂) $ await ! tt $ learn ! (λ is-l.
+        split ! $ lft-end ! tt $ move ! (0 ∷ 4 ∷ []) $ use2 W (later (given (Is Jobs (take n js ++ drop n js) (array-vals job-vals (take n js ++ drop n js))) (‵ (holds J.the-row jobsMost l₈ (only (array-vals job-vals (take n js ++ drop n js))))))) (back-shared job-rows jobsMost js n l₈ (ν ∷ []) len) $ await ! tt $ learn ! (λ is-j.
+        move ! (1 ∷ []) $ split ! $ lft-end ! tt $ move ! (0 ∷ 5 ∷ 4 ∷ []) $ use3 W (later (given (Is Shares shares (array-vals share-vals shares)) (‵ (holds Sh.the-row jobsMost l₉ (only (array-vals share-vals shares)))))) (back share-rows jobsMost ss m l₉ (ν₁ ∷ []) γ₁ (zs .1 .1 .0) len₁) $ await ! tt $ learn ! (λ is-s.
+        move ! (1 ∷ []) $ split ! $ lft-end ! tt $ move ! (0 ∷ 5 ∷ 4 ∷ []) $ use3 W (later (given (Is Slices slices (array-vals slice-vals slices)) (‵ (holds Sl.the-row slicesMost l₁₀ (only (array-vals slice-vals slices)))))) (back slice-rows slicesMost ls k l₁₀ (ν₂ ∷ []) γ₂ (zs .1 .1 .1 .0) len₂) $ await ! tt $ learn ! (λ is-l.
         let d : Lent = record { planned = r; shares = shares; slices = slices } in
         let is-d : Is P.the-row d (mach w (only (array-vals share-vals shares)) (only (array-vals slice-vals slices)) ∷ []) = lent-is d w _ _ is-r is-s is-l in
         move ! (1 ∷ []) $ drops ! $
@@ -250,7 +244,7 @@ module _ {M : Type 1} (𝓤 : URA M) (H : Heap 𝓤) (A : Atoms 𝓤) (W : Given
   walks : (C : Calls 𝓤 H) (Λ : Loops 𝓤 H) → FmC 𝓤 H (W .laws) C → Triple 𝓤 (C #g) Plan → Walks 𝓤 H A f.ended stayed (WpFn 𝓤 H C Λ code.function) (f.clauses 𝓤 H A mem run)
   walks C Λ fm known = walked 𝓤 H A f.ended stayed (f.clauses 𝓤 H A mem run) (WpFn 𝓤 H C Λ code.function)
       (λ κs. (LL.vals B.the-type B′.the-laws, (array-vals job-vals, (uint-vals w64, (array-vals share-vals, (uint-vals w64, (array-vals slice-vals, (uint-vals w64, tt))))))))
-      (λ κs. (LL.tells B.the-type B′.the-laws, (array-tells J.the-row job-vals tells jobsMost, (uint-tells w64, (array-tells Sh.the-row share-vals tells₁ jobsMost, (uint-tells w64, (array-tells Sl.the-row slice-vals tells₂ slicesMost, (uint-tells w64, tt))))))))
+      (λ κs. (LL.tells B.the-type B′.the-laws, (array-tells J.the-row job-vals (LE.tells J.the-type J′.the-laws) jobsMost, (uint-tells w64, (array-tells Sh.the-row share-vals (LL.tells Sh.the-type Sh′.the-laws) jobsMost, (uint-tells w64, (array-tells Sl.the-row slice-vals (LL.tells Sl.the-type Sl′.the-laws) slicesMost, (uint-tells w64, tt))))))))
       (λ κs qs bounds a g are. needs 𝓤 ((a .1 .1 .0 ≤ jobsMost) × ((a .1 .1 .1 .1 .0 ≤ jobsMost) × (a .1 .1 .1 .1 .1 .1 .0 ≤ slicesMost))) _ (λ pre.
       walk 𝓤 H A W mem run (a .0) (a .1 .0) (a .1 .1 .1 .0) (a .1 .1 .1 .1 .1 .0) (a .1 .1 .0) (a .1 .1 .1 .1 .0) (a .1 .1 .1 .1 .1 .1 .0) _ _ _ (are .0) (are .1 .0) (are .1 .1 .1 .0) (are .1 .1 .1 .1 .1 .0) (are .1 .1 .0 .1) (are .1 .1 .1 .1 .0 .1) (are .1 .1 .1 .1 .1 .1 .0 .1) pre C Λ fm known))
 

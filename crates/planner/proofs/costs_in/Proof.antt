@@ -15,7 +15,8 @@ use Rattle.rows.proofs.Walk.{fill-one}
 use Rattle.rows.proofs.Lent.Count.{Upto, Turn, counts-up, nears, rests}
 use Rattle.rows.proofs.Lent.Slot as slot
 use Rattle.rows.proofs.Lent.Places.{learns, within, rooms, rights, locals, frees-all}
-use Rattle.rows.proofs.Lent.Steps.{word, ty, Element, number, enum, array, has, said, rows-ty, looked, looks-rows, goes-on, leaves, points-slot, points-slice, loads, stores, counts, calls, opens-slot, shuts-slot, shuts-rows}
+use Rattle.rows.proofs.Lent.Element.{Element, number, enum, array, has, word, ty, rows-ty}
+use Rattle.rows.proofs.Lent.Steps.{said, looked, looks-rows, goes-on, leaves, points-slot, points-slice, loads, stores, counts, calls, opens-slot, shuts-slot, shuts-rows}
 use Rattle.model.specs.Columns.{costOn, jobFirst as on-first}
 use Rattle.model.specs.Limits.{jobsMost as most}
 use Rattle.model.specs.declared.Kind.{Kind}
@@ -120,7 +121,7 @@ module _ {M : Type 1} (𝓤 : URA M) (H : Heap 𝓤) (A : Atoms 𝓤) (W : Given
       At i = ‵ (froom (ty Column) l₀ 0) ∷ ‵ (fat fullShare (ty K.the-row) l₁ 0 kv) ∷ ‵ (fat fullShare (rows-ty R) l₂ 0 s) ∷ ‵ (fat fullShare word l₃ 0 (vint w64 n)) ∷ ‵ (row u32 fullShare (mixed (i .0)) l₄ 0) ∷ ‵ (fat fullShare word l₅ 0 (vint w64 (i .0)))
           ∷ (rooms 𝓤 H (drop 6 En) ++ (‵ (rights 𝓤 H En) ∷ ‵ (row R q′ js b o) ∷ looked 𝓤 R js b o κ q γ s q′))
 
-      -- a turn that writes a cost: the slice's job is loaded, and its cost on the kind is stored to the column
+      -- a turn that writes a cost: the slice's job, of 12 bytes, is loaded, and its cost on the kind is stored to the column in 4
       more : (i : Upto n) → i .0 < n → Turn W 𝓣 En code-mir.turn-1 code-mir.t-4 Post n At i
       more i less =
           let j : Job = job-at (i .0) in
@@ -171,9 +172,9 @@ meets 𝓤 H A W mem run 𝓣 known =
     walk-meets 𝓤 H A f.ended stayed W (goes-none 𝓤 H A W 1 (λ _. K.the-row) yes (λ κs x f. refl), (goes-none-slice 𝓤 H A W 1 (0 ∷ []) tt (plain (λ _. R)) yes, (goes-none 𝓤 H A W 1 (λ _. usize) yes (λ κs x f. refl), tt))) (f.clauses 𝓤 H A mem run)
     (WpFn 𝓤 H (𝓣 .C) (𝓣 .Λ) code.function) (WpFn-mono 𝓤 H (W .laws) 𝓣 code.function)
     (walked 𝓤 H A f.ended stayed (f.clauses 𝓤 H A mem run) (WpFn 𝓤 H (𝓣 .C) (𝓣 .Λ) code.function)
-      (λ κs. (kind-vals, (slice-vals, (uint-vals w64, tt)))) (λ κs. (LE.tells K.the-type K′.the-laws, (shr-slice-tells (named 0) (κs .0) R, (uint-tells w64, tt))))
-      (λ κs qs bounds a g are. needs 𝓤 ((a .1 .1 .0 ≤ most) × (a .1 .1 .0 ≤ length (a .1 .0 .now))) _ (λ pre.
-      walk 𝓤 H A W mem run (a .0) (κs .0) (qs .0) (a .1 .0 .ptr .0) (a .1 .0 .ptr .1) (a .1 .0 .name) (a .1 .0 .now) (a .1 .1 .0) (are .0) (are .1 .1 .0 .1) (are .1 .0 .0 .1) pre 𝓣 known)))
+    (λ κs. (kind-vals, (slice-vals, (uint-vals w64, tt)))) (λ κs. (LE.tells K.the-type K′.the-laws, (shr-slice-tells (named 0) (κs .0) R, (uint-tells w64, tt))))
+    (λ κs qs bounds a g are. needs 𝓤 ((a .1 .1 .0 ≤ most) × (a .1 .1 .0 ≤ length (a .1 .0 .now))) _ (λ pre.
+    walk 𝓤 H A W mem run (a .0) (κs .0) (qs .0) (a .1 .0 .ptr .0) (a .1 .0 .ptr .1) (a .1 .0 .name) (a .1 .0 .now) (a .1 .1 .0) (are .0) (are .1 .1 .0 .1) (are .1 .0 .0 .1) pre 𝓣 known)))
 
 pub costs-in-spec : {M : Type 1} → stated.statement M
 unfolding code.routine tablesOf

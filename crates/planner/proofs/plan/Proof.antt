@@ -1,16 +1,24 @@
--- `planner::plan` meets its contract: a walk of its MIR, by hand, with six calls and no branch. All that it knows of each callee is that it meets its contract, and all that it says of its own promise is `Lent.antt`'s `lent`.
--- The lent jobs are had again for each `costs_in`, and are kept for the exit. Each table is passed on for good, at its own lifetime, share and ghost name (`gave-slice`). What `plan_tables` returns is a plain value: its fields are read off its machine value.
+-- `planner::plan` meets its contract: a walk of its MIR, by hand, with six calls and no branch. All that it knows of each callee is that it meets
+-- its contract, and all that it says of its own promise is `Lent.antt`'s `lent`.
+-- The lent jobs are had again for each `costs_in`, and are kept for the exit. Each table is passed on for good, at its own lifetime, share and ghost
+-- name (`gave-slice`). What `plan_tables` returns is a plain value: its fields are read off its machine value.
 -- Of the jobs' lifetime, share, place and so on the names have no mark, of the share table's they have ₁, and of the slice table's ₂.
--- Positions: local i of the 18 stands at 2·(17 − i) with its right to be freed right after it, then come the tokens and what the parameters own. The comments say what stands before _17, and where _17 then is: each local is as many places further back.
+-- Positions: local i of the 18 stands at 2·(17 − i) with its right to be freed right after it, then come the tokens and what the parameters own. The
+-- comments say what stands before _17, and where _17 then is: each local is as many places further back.
 -- Assumes nothing.
 use mathlib.Core.Path.{_≡_, refl, ap}
-use Prim.Native.Nat.{ℕ, _<_, _≤_, _^_, min}
 use mathlib.Core.List.{[], _∷_, _++_, List, map}
+use Prim.Native.Nat.{ℕ, _<_, _≤_, _^_, min}
 use lib.Dec.{lit<}
 use lib.ListN.{length, drop}
 use denote.Struct.Laws as LL
 use denote.Enum.Laws as LE
 use Rattle.rows.proofs.Lent.Logic.{URA, fullShare, named, w16, w32, w64, tyInt, Val, vint, SProp, ent, sep, emp, via, fst∗, id⊢, exE, snd∗, Lft, Share, GName, ftrue, fat, flft, Memory, Routine, Heap, Calls, Loops, WpFn, Tables, Atoms, sem, Fun, fact, givenOf, tables, tablesOf, Given, ‵, raw, some, later, _⊛_, ⋆, _$_, _∵_, !, qed, by, move, keep, drops, use1, use2, split, join, pick, rewrite, fsplit, fjoin, feqL, suffices, frame, await, done, look, init, store, forget, stop, hop, fld, from, load, lit, addr, of-opd, and-then, no-more, assigns, land, returns, enter, alloc1, alloc0, params1, pass1, pass0, free1, free0, agg, whole, sub, look-in, FmC, fmOf, WpFn-mono, RattleType, owns, Is, Makes, shows, uint-makes, uint-lawful, nothing-lawful, Array, array-typed, array-makes, u16, u32, u64, usize, unit, RefT, sliceVal, ShrSlice, MutSlice, Room, finally, slice-vals, shr-slice-tells, mut-slice-tells, shr-slice-copy, only, owned, peeks, heard, nothing, onEntry, Meets, tripleOf, Contract, Triple, calls-at, ensured, lasts, entered, cited, says, Stays, stay-none, stay-none-slice, gave-slice, walkOf, goes-none, goes-none-slice, goes-gave-slice, Walks, ends-at, walked, walk-meets, yes, plain}
+use Rattle.rows.proofs.Fields.{is-back}
+use Rattle.rows.proofs.at_most as most
+use Rattle.rows.proofs.at_most.Symbol as most-def
+use Rattle.rows.proofs.at_most.Symbol.{name as #most}
+use Rattle.rows.proofs.at_most.Met as most-thm
 use Rattle.model.specs.Columns.{jobsIn, sharesIn}
 use Rattle.model.specs.ShareRow.{rowOf}
 use Rattle.model.specs.Limits.{jobsMost, slicesMost}
@@ -31,16 +39,11 @@ use Rattle.model.proofs.Slice as Sl
 use Rattle.planner.specs.Promise.{Promised}
 use Rattle.planner.specs.ByValue.{Filled}
 use Rattle.planner.specs.declared.Tables.{Tables as Filling}
-use Rattle.rows.proofs.Fields.{is-back}
 use Rattle.planner.proofs.Lent.{read, few-fits, lent}
 use Rattle.planner.proofs.Planned as E
 use Rattle.planner.proofs.Planned.Laws as E′
 use Rattle.planner.proofs.Tables as P
 use Rattle.planner.proofs.Tables.Laws as P′
-use Rattle.rows.proofs.at_most as most
-use Rattle.rows.proofs.at_most.Symbol as most-def
-use Rattle.rows.proofs.at_most.Symbol.{name as #most}
-use Rattle.rows.proofs.at_most.Met as most-thm
 use Rattle.planner.proofs.costs_in as costs
 use Rattle.planner.proofs.costs_in.Symbol as costs-def
 use Rattle.planner.proofs.costs_in.Symbol.{name as #costs}

@@ -13,7 +13,8 @@ use Rattle.rows.proofs.Lent.Logic.{URA, fullShare, named, w16, w64, tyBool, tyP
 use Rattle.rows.proofs.Upto.{upto-map}
 use Rattle.rows.proofs.Lent.Count.{Upto, Turn, counts-up, nears, rests, made, made-length, made-next}
 use Rattle.rows.proofs.Lent.Places.{learns, within, rooms, rights, locals, frees-all}
-use Rattle.rows.proofs.Lent.Steps.{word, ty, table-ty, Element, number, struct, array, has, said, goes-on, leaves, points-slot, points-slice, loads, stores, counts, calls, opens-slot, shuts-slot, opened, opens-table, closes-table, owns-table}
+use Rattle.rows.proofs.Lent.Element.{Element, number, struct, array, has, word, ty, table-ty}
+use Rattle.rows.proofs.Lent.Steps.{said, goes-on, leaves, points-slot, points-slice, loads, stores, counts, calls, opens-slot, shuts-slot, opened, opens-table, closes-table, owns-table}
 use Rattle.model.specs.Columns.{sharesIn}
 use Rattle.model.specs.Limits.{jobsMost as most}
 use Rattle.model.specs.ShareRow.{rowOf}
@@ -85,7 +86,7 @@ module _ {M : Type 1} (𝓤 : URA M) (H : Heap 𝓤) (A : Atoms 𝓤) (W : Given
     At i = ‵ (froom tyUnit l₀ 0) ∷ ‵ (fat fullShare (table-ty R) l₁ 0 s) ∷ ‵ (fat fullShare (ty Column) l₂ 0 v₁) ∷ ‵ (fat fullShare (ty Column) l₃ 0 v₂) ∷ ‵ (fat fullShare word l₄ 0 (vint w64 n)) ∷ ‵ (row u16 fullShare xs l₅ 0) ∷ ‵ (row u16 fullShare zs l₆ 0) ∷ ‵ (fat fullShare word l₇ 0 (vint w64 (i .0)))
         ∷ (rooms 𝓤 H (drop 8 En) ++ (‵ (rights 𝓤 H En) ∷ ‵ (row R fullShare (made make ys (i .0)) b o) ∷ opened 𝓤 R ys b o κ q γ))
 
-    -- a turn that writes a row: the columns' numbers are loaded, the row is made of them and stored to the table
+    -- a turn that writes a row: the columns' numbers, of 2 bytes, are loaded, the row is made of them and stored to the table in 8
     more : (i : Upto n) → i .0 < n → Turn W 𝓣 En code-mir.turn-1 code-mir.t-5 Post n At i
     more i less =
         let fits : i .0 * 8 < 2 ^ 64 = omega arith in
@@ -135,9 +136,9 @@ meets 𝓤 H A W mem run 𝓣 known =
     walk-meets 𝓤 H A f.ended stayed W (goes-slice 𝓤 H A W 1 0 tt (plain (λ _. R)), (goes-none 𝓤 H A W 1 (λ _. Column) yes (λ κs x f. refl), (goes-none 𝓤 H A W 1 (λ _. Column) yes (λ κs x f. refl), (goes-none 𝓤 H A W 1 (λ _. usize) yes (λ κs x f. refl), tt)))) (f.clauses 𝓤 H A mem run)
     (WpFn 𝓤 H (𝓣 .C) (𝓣 .Λ) code.function) (WpFn-mono 𝓤 H (W .laws) 𝓣 code.function)
     (walked 𝓤 H A f.ended stayed (f.clauses 𝓤 H A mem run) (WpFn 𝓤 H (𝓣 .C) (𝓣 .Λ) code.function)
-      (λ κs. (slice-vals, (array-vals (uint-vals w16), (array-vals (uint-vals w16), (uint-vals w64, tt))))) (λ κs. (mut-slice-tells (named 0) (κs .0) R, (array-tells u16 (uint-vals w16) (uint-tells w16) most, (array-tells u16 (uint-vals w16) (uint-tells w16) most, (uint-tells w64, tt)))))
-      (λ κs qs bounds a g are. needs 𝓤 ((a .1 .1 .1 .0 ≤ most) × (a .1 .1 .1 .0 ≤ length (a .0 .now))) _ (λ pre.
-      walk 𝓤 H A W mem run (κs .0) (qs .0) (a .0 .ptr .0) (a .0 .ptr .1) (a .0 .name) (a .0 .now) (a .1 .0) (a .1 .1 .0) (a .1 .1 .1 .0) _ _ (are .1 .1 .1 .0 .1) (are .1 .0) (are .1 .1 .0) (are .0 .0 .1) pre 𝓣 known)))
+    (λ κs. (slice-vals, (array-vals (uint-vals w16), (array-vals (uint-vals w16), (uint-vals w64, tt))))) (λ κs. (mut-slice-tells (named 0) (κs .0) R, (array-tells u16 (uint-vals w16) (uint-tells w16) most, (array-tells u16 (uint-vals w16) (uint-tells w16) most, (uint-tells w64, tt)))))
+    (λ κs qs bounds a g are. needs 𝓤 ((a .1 .1 .1 .0 ≤ most) × (a .1 .1 .1 .0 ≤ length (a .0 .now))) _ (λ pre.
+    walk 𝓤 H A W mem run (κs .0) (qs .0) (a .0 .ptr .0) (a .0 .ptr .1) (a .0 .name) (a .0 .now) (a .1 .0) (a .1 .1 .0) (a .1 .1 .1 .0) _ _ (are .1 .1 .1 .0 .1) (are .1 .0) (are .1 .1 .0) (are .0 .0 .1) pre 𝓣 known)))
 
 pub put-shares-spec : {M : Type 1} → stated.statement M
 unfolding code.routine tablesOf

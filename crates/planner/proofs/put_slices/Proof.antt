@@ -12,7 +12,8 @@ use Rattle.rows.specs.Upto.{at}
 use Rattle.rows.proofs.Lent.Logic.{URA, fullShare, named, w64, tyBool, tyPtr, tyUnit, Val, vunit, vint, SProp, ent, emp, id⊢, Lft, Share, GName, fat, froom, flft, ftrue, Memory, Routine, Heap, Env, WpFn, Tables, Atoms, Fun, givenOf, tables, tablesOf, Given, Item, ‵, _⊛_, runs, atRet, Sq, _$_, _∵_, !, qed, move, join, rewrite, fjoin, feqI, suffices, frame, done, look, init, forget, stop, from, load, lit, unit-lit, and-then, no-more, of-opd, assigns, land, returns, enter, params1, pass1, pass0, fmOf, WpFn-mono, RattleType, owns, Is, uint-vals, uint-tells, Array, array-vals, array-tells, u64, usize, sliceVal, MutSlice, Room, slice-vals, mut-slice-tells, row, nothing, onEntry, Meets, tripleOf, Contract, Triple, entered, cited, says, needs, Stays, stay-slice, stay-none, walkOf, goes-slice, goes-none, ends-at, walked, walk-meets, yes, plain}
 use Rattle.rows.proofs.Lent.Count.{Upto, Turn, counts-up, nears, rests, made, made-length, made-next}
 use Rattle.rows.proofs.Lent.Places.{learns, within, rooms, rights, locals, frees-all}
-use Rattle.rows.proofs.Lent.Steps.{word, ty, table-ty, Element, number, struct, array, has, said, goes-on, leaves, points-slot, points-slice, loads, stores, counts, calls, opens-slot, shuts-slot, opened, opens-table, closes-table, owns-table}
+use Rattle.rows.proofs.Lent.Element.{Element, number, struct, array, has, word, ty, table-ty}
+use Rattle.rows.proofs.Lent.Steps.{said, goes-on, leaves, points-slot, points-slice, loads, stores, counts, calls, opens-slot, shuts-slot, opened, opens-table, closes-table, owns-table}
 use Rattle.model.specs.Limits.{slicesMost as most}
 use Rattle.model.specs.Packed.{sliceIn}
 use Rattle.model.specs.declared.Slice.{Slice as Row}
@@ -81,7 +82,7 @@ module _ {M : Type 1} (𝓤 : URA M) (H : Heap 𝓤) (A : Atoms 𝓤) (W : Given
     At i = ‵ (froom tyUnit l₀ 0) ∷ ‵ (fat fullShare (table-ty R) l₁ 0 s) ∷ ‵ (fat fullShare (ty Column) l₂ 0 v) ∷ ‵ (fat fullShare word l₃ 0 (vint w64 n)) ∷ ‵ (row u64 fullShare xs l₄ 0) ∷ ‵ (fat fullShare word l₅ 0 (vint w64 (i .0)))
         ∷ (rooms 𝓤 H (drop 6 En) ++ (‵ (rights 𝓤 H En) ∷ ‵ (row R fullShare (made make ys (i .0)) b o) ∷ opened 𝓤 R ys b o κ q γ))
 
-    -- a turn that writes a row: the column's number is loaded, the row is made of it and stored to the table
+    -- a turn that writes a row: the column's number is loaded, the row is made of it and stored to the table (each has 8 bytes)
     more : (i : Upto n) → i .0 < n → Turn W 𝓣 En code-mir.turn-1 code-mir.t-4 Post n At i
     more i less =
         let fits : i .0 * 8 < 2 ^ 64 = omega arith in
@@ -126,9 +127,9 @@ meets 𝓤 H A W mem run 𝓣 known =
     walk-meets 𝓤 H A f.ended stayed W (goes-slice 𝓤 H A W 1 0 tt (plain (λ _. R)), (goes-none 𝓤 H A W 1 (λ _. Column) yes (λ κs x f. refl), (goes-none 𝓤 H A W 1 (λ _. usize) yes (λ κs x f. refl), tt))) (f.clauses 𝓤 H A mem run)
     (WpFn 𝓤 H (𝓣 .C) (𝓣 .Λ) code.function) (WpFn-mono 𝓤 H (W .laws) 𝓣 code.function)
     (walked 𝓤 H A f.ended stayed (f.clauses 𝓤 H A mem run) (WpFn 𝓤 H (𝓣 .C) (𝓣 .Λ) code.function)
-      (λ κs. (slice-vals, (array-vals (uint-vals w64), (uint-vals w64, tt)))) (λ κs. (mut-slice-tells (named 0) (κs .0) R, (array-tells u64 (uint-vals w64) (uint-tells w64) most, (uint-tells w64, tt))))
-      (λ κs qs bounds a g are. needs 𝓤 ((a .1 .1 .0 ≤ most) × (a .1 .1 .0 ≤ length (a .0 .now))) _ (λ pre.
-      walk 𝓤 H A W mem run (κs .0) (qs .0) (a .0 .ptr .0) (a .0 .ptr .1) (a .0 .name) (a .0 .now) (a .1 .0) (a .1 .1 .0) _ (are .1 .1 .0 .1) (are .1 .0) (are .0 .0 .1) pre 𝓣 known)))
+    (λ κs. (slice-vals, (array-vals (uint-vals w64), (uint-vals w64, tt)))) (λ κs. (mut-slice-tells (named 0) (κs .0) R, (array-tells u64 (uint-vals w64) (uint-tells w64) most, (uint-tells w64, tt))))
+    (λ κs qs bounds a g are. needs 𝓤 ((a .1 .1 .0 ≤ most) × (a .1 .1 .0 ≤ length (a .0 .now))) _ (λ pre.
+    walk 𝓤 H A W mem run (κs .0) (qs .0) (a .0 .ptr .0) (a .0 .ptr .1) (a .0 .name) (a .0 .now) (a .1 .0) (a .1 .1 .0) _ (are .1 .1 .0 .1) (are .1 .0) (are .0 .0 .1) pre 𝓣 known)))
 
 pub put-slices-spec : {M : Type 1} → stated.statement M
 unfolding code.routine tablesOf

@@ -1,5 +1,5 @@
 -- A loop `while i < n` that is the last of a function's body but for the rest after it, and the table that it fills from its start.
---     Upto, Nearer, nearer-wf   a count of at most n; a later one is nearer to n, and none can come nearer for ever
+--     Upto                      a count of at most n; a later one is nearer to n, and none can come nearer for ever
 --     Turn                      a turn from the invariant: it ends nearer to n, or the loop is left and the rest of the body runs
 --     counts-up                 the loop from 0, by a turn that goes on and one that leaves
 --     nears, rests              how the one ends, at the next count, and the other, in the rest of the body
@@ -24,7 +24,7 @@ use mir.Val.{Val}
 use base.Logic.{SProp}
 use prog.Wp.{Heap, Out, next, exits, Env, afterSeq, afterBlock, afterTurn, Wp, atReturn, Tables}
 use ghost.Atoms.{Atoms}
-use types.Kit.{Given, Item, prop, runs, anyQ, atRet, Seq, Step, Sq, _$_, !}
+use types.Kit.{Given, Item, prop, runs, anyQ, atRet, Seq, Step, Sq, _$_, ! }
 use types.Run.{first, blocks, exec, Below, again, loops}
 use Rattle.rows.specs.Upto.{upto}
 use Rattle.rows.proofs.Upto.{upto-length, fill}
@@ -32,13 +32,13 @@ use Rattle.rows.proofs.Upto.{upto-length, fill}
 abbrev pub Upto : ℕ → Type 0
 Upto n = (i : ℕ) × (i ≤ n)
 
-abbrev pub Nearer : (n : ℕ) → Upto n → Upto n → Type 0
+abbrev Nearer : (n : ℕ) → Upto n → Upto n → Type 0
 Nearer n j i = n - j .0 < n - i .0
 
-pub nearer-wf : (n : ℕ) → WellFounded (Nearer n)
+nearer-wf : (n : ℕ) → WellFounded (Nearer n)
 nearer-wf n = InvImage·wf (λ (i : Upto n). n - i .0) (Nat·lt-wfRel .wf)
 
-pub below : (n i : ℕ) → i < n → i + 1 ≤ n
+abbrev below : (n i : ℕ) → i < n → i + 1 ≤ n
 below n i h = omega arith
 
 by-test : {X : Type 1} (t : Bool) → (t ≡ true → X) → (t ≡ false → X) → X

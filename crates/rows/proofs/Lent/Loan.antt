@@ -1,10 +1,11 @@
--- A local array whose first rows are lent for a call: its slot is taken apart and the rows are lent as a slice; once the loan is over, the slot is put together at the rows that the call left.
---     holds        the slot of an array, at a machine value
---     Behind       the rows that are not lent, in memory
+-- A local array whose first rows are lent for a call: its slot is taken apart and the rows are lent as a slice; once the loan is over, the slot is put
+-- together at the rows that the call left.
+--     holds                        the slot of an array, at a machine value
+--     lent-as, as-val              a slice of its first rows: the reference, and its machine value
 --     LentTable, LentRows          what a lender of a `&mut [T]` and of a `&[T]` keeps: its part of the loan, and the rows behind
 --     lends, back                  the first rows as a `&mut [T]`, and the array after it
 --     lends-shared, back-shared    the first rows as a `&[T]`, which leaves them as they were
--- For the element types of `Slot.antt`. Assumes `Given`.
+-- Assumes `Given`.
 use mathlib.Core.Path.{_≡_, refl, sym, _∙_}
 use mathlib.Core.List.{List, [], _∷_, _++_}
 use Prim.Native.Nat.{ℕ}
@@ -25,27 +26,28 @@ use types.SemTy.{cells, Arr}
 use types.Share.{arr-parts}
 use denote.RattleType.{RattleType}
 use denote.Memory.{lone, mem, shares}
-use denote.Laws.{Is, Tells, Makes}
+use denote.Laws.{Is}
 use denote.Array.{Array, array-vals}
-use denote.ArrayMemory.{Single}
 use denote.Index.{row, whole-in, whole-out}
 use denote.Lend.{Held, lends-slice, slice-back, lends-shr-slice}
 use denote.Ref.{RefT}
 use denote.Slice.{sliceVal, ShrSlice, MutSlice, Room, finally}
 use denote.Steps.{only}
+use Rattle.rows.proofs.Lent.Element.{Element}
 use Rattle.rows.proofs.Lent.Slot as slot
 
 abbrev pub holds : RattleType → (most l : ℕ) → Val → Fml
 holds R most l v = fat fullShare (tyArray (lone (R .mir)) most) l 0 v
 
--- a slice of the first n rows xs of the slot at l: the reference, and its machine value
+-- of the first n rows of xs, at the slot l
 abbrev pub lent-as : {X : Type 0} → List X → (n l : ℕ) → GName → RefT (List X)
 lent-as xs n l γ = record { ptr = (l, 0); name = γ; now = take n xs }
 
 abbrev pub as-val : {X : Type 0} → List X → (n l : ℕ) → Val
 as-val xs n l = sliceVal (l, 0) (length (take n xs))
 
-abbrev pub Behind : (R : RattleType) → List (R .Denot) → (n l : ℕ) → Fml
+-- the rows that are not lent, in memory
+abbrev Behind : (R : RattleType) → List (R .Denot) → (n l : ℕ) → Fml
 Behind R xs n l = cells (mem R) (drop n xs) l (at 0 (mem R .size) (length (take n xs)))
 
 abbrev pub LentTable : (R : RattleType) → List (R .Denot) → (n l : ℕ) → Lft → GName → Fml
@@ -54,9 +56,15 @@ LentTable R xs n l κ γ = fsep (flent κ (Held R (length (take n xs)) l 0 γ)) 
 abbrev pub LentRows : (R : RattleType) → List (R .Denot) → (n l : ℕ) → Lft → Fml
 LentRows R xs n l κ = fsep (flent κ (arr-parts (shares R) (length (take n xs)) .part fullShare (take n xs) l 0)) (Behind R xs n l)
 
-module _ (R : RattleType) (one : Single (R .mir)) (vals : R .Denot → List Val) (tells : Tells R (Is R) vals) (most : ℕ) {M : Type 1} (𝓤 : URA M) (H : Heap 𝓤) (A : Atoms 𝓤) (W : Given 𝓤 H A) (xs : List (R .Denot)) (n l : ℕ) where
+module _ {M : Type 1} {𝓤 : URA M} {H : Heap 𝓤} {A : Atoms 𝓤} {W : Given 𝓤 H A} (el : Element W) (most : ℕ) (xs : List (el .type .Denot)) (n l : ℕ) where
+  abbrev R : RattleType
+  R = el .type
+
   abbrev X : Type 0
   X = R .Denot
+
+  abbrev vals : X → List Val
+  vals x = el .val x ∷ []
 
   abbrev ⟦_⟧ : Fml → SProp 𝓤
   ⟦ P ⟧ = sem 𝓤 H A P
@@ -75,7 +83,7 @@ module _ (R : RattleType) (one : Single (R .mir)) (vals : R .Denot → List Val)
   joins zs e len =
       qed W (‵ (cells (mem R) zs l 0) ∷ ‵ (Behind R xs n l) ∷ []) ∵ rewrite ! 1 (λ (k : ℕ). ‵ (cells (mem R) (drop n xs) l (at 0 (mem R .size) k))) (sym e) refl $
       use2 W (‵ (cells (mem R) (after zs) l 0)) (join-app 𝓤 H A (mem R) zs (drop n xs) l 0) $ use1 W (‵ (row R fullShare (after zs) l 0)) (whole-out 𝓤 H A W R (after zs) l 0) $
-      by ! (slot.shut R one vals tells most 𝓤 H A W (after zs) l (length-front xs zs n e ∙ len))
+      by ! (slot.shut el most (after zs) l (length-front xs zs n e ∙ len))
 
   pub back : (κ : Lft) (γ : GName) (zs : List X) → length xs ≡ most → ent 𝓤 (sep 𝓤 (A .dead κ) (sep 𝓤 ⟦ LentTable R xs n l κ γ ⟧ ⟦ finally R γ zs ⟧)) (H .⇛ (Whole zs))
   back κ γ zs len =
@@ -87,10 +95,10 @@ module _ (R : RattleType) (one : Single (R .mir)) (vals : R .Denot → List Val)
       qed W (‵ (fdead κ) ∷ ‵ (LentRows R xs n l κ) ∷ []) ∵ updating ! $ move ! (1 ∷ []) $ fsplit ! $ move ! (2 ∷ 0 ∷ []) $ lent-back ! tt $ fsplit ! $ drops ! $
       use1 W (‵ (cells (mem R) front l 0)) (whole-in 𝓤 H A W R front l 0) $ at-once ! $ by ! (joins front refl len)
 
-  module _ (makes : Makes 𝓤 H A R (Is R)) (v : Val) (is : Is (Array R most) xs (v ∷ [])) (room : Room R (length front)) (ℓ : Lifetime) (κ : Lft) where
+  module _ (v : Val) (is : Is (Array R most) xs (v ∷ [])) (room : Room R (length front)) (ℓ : Lifetime) (κ : Lft) where
     cuts : ent 𝓤 ⟦ holds R most l v ⟧ (sep 𝓤 ⟦ cells (mem R) front l 0 ⟧ ⟦ Behind R xs n l ⟧)
     cuts =
-        qed W (‵ (holds R most l v) ∷ []) ∵ use1 W (‵ (row R fullShare xs l 0)) (slot.apart R one vals tells most 𝓤 H A W makes xs v l is) $ use1 W (‵ (cells (mem R) xs l 0)) (whole-in 𝓤 H A W R xs l 0) $
+        qed W (‵ (holds R most l v) ∷ []) ∵ use1 W (‵ (row R fullShare xs l 0)) (slot.apart el most xs v l is) $ use1 W (‵ (cells (mem R) xs l 0)) (whole-in 𝓤 H A W R xs l 0) $
         rewrite ! 0 (λ (ys : List X). ‵ (cells (mem R) ys l 0)) (sym (take-append-drop n xs)) refl $ by ! (cut-app 𝓤 H A (mem R) front (drop n xs) l 0)
 
     abbrev Lending : GName → SProp 𝓤

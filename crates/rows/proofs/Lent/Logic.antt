@@ -18,7 +18,7 @@ pub use types.Part.{rep, agg, whole, sub, look-in}
 pub use types.Tokens.{lft-new, lft-end}
 pub use sound.WpLaws.{fmOf, WpFn-mono, FmC}
 pub use denote.RattleType.{RattleType, owns}
-pub use denote.Laws.{Is, Makes, shows, Tells}
+pub use denote.Laws.{Is, Makes, shows}
 pub use denote.Plain.{uint-vals, uint-tells, uint-makes, uint-lawful, nothing-lawful}
 pub use denote.Array.{Array, array-vals, array-tells, arrayVal, array-typed, array-makes}
 pub use denote.Builtin.{u64, usize, u16, u32, unit}

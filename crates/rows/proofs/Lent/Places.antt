@@ -1,8 +1,8 @@
--- A walk whose context keeps every entry at its place: local k of the function stands at k, behind the locals comes their right to be freed, all in one, and then what the proof holds of loans.
--- The rules of `types.Kit` work at the front, so that each of them shifts the others; here a rule is stated at the few entries that it is about, and is used at their places.
---     Local           a rule at the entries Δ, which become Δ′; whatever else is there stays
---     back            a context with new entries at the places where others were taken out; those that have no place go to the end
---     within          the rule at these places
+-- A walk whose context keeps every entry at its place: local k of the function stands at k, behind the locals comes the right to free them, all in
+-- one, and then what the proof holds of loans. The rules of `types.Kit` work at the front, so that each of them shifts the others; here a rule is
+-- stated at the few entries that it is about, and is used at their places.
+--     Local           a rule at the entries Δ, which become Δ′, where facts φ are learned; whatever else is there stays
+--     learns, within  the rule at these places: with what is learned, or where nothing is
 --     rooms, rights   the room of each local, and the right to free it
 --     Binds, locals   the locals are allocated: one number is bound for each
 --     frees-all       they are freed
@@ -68,7 +68,8 @@ module _ {M : Type 1} (𝓤 : URA M) (H : Heap 𝓤) (A : Atoms 𝓤) where
   rest [] Γ = Γ
   rest (n ∷ π) Γ = rest π (del 𝓤 H A n Γ)
 
-  abbrev pub back : List ℕ → Cx → Cx → Cx
+  -- a context with new entries at the places where others were taken out; those that have no place go to the end
+  abbrev back : List ℕ → Cx → Cx → Cx
   back [] Δ Γ = Γ ++ Δ
   back (n ∷ π) [] Γ = back π [] (del 𝓤 H A n Γ)
   back (n ∷ π) (d ∷ Δ) Γ = ins n d (back π Δ (del 𝓤 H A n Γ))
@@ -85,7 +86,7 @@ module _ {M : Type 1} (𝓤 : URA M) (H : Heap 𝓤) (A : Atoms 𝓤) where
   out⊢ (n ∷ π) Γ =
       via 𝓤 (mean 𝓤 H A (nth 𝓤 H A n Γ) ∗ ⟦ del 𝓤 H A n Γ ⟧) (pull 𝓤 H A n Γ)
       (via 𝓤 (mean 𝓤 H A (nth 𝓤 H A n Γ) ∗ ⟦ only 𝓤 H A π (del 𝓤 H A n Γ) ++ rest π (del 𝓤 H A n Γ) ⟧) (monoR 𝓤 (mean 𝓤 H A (nth 𝓤 H A n Γ)) (out⊢ π (del 𝓤 H A n Γ)))
-        (push 𝓤 H A (nth 𝓤 H A n Γ) (only 𝓤 H A π (del 𝓤 H A n Γ) ++ rest π (del 𝓤 H A n Γ))))
+      (push 𝓤 H A (nth 𝓤 H A n Γ) (only 𝓤 H A π (del 𝓤 H A n Γ) ++ rest π (del 𝓤 H A n Γ))))
 
   tail⊢ : (Δ Γ Γ′ : Cx) → ent 𝓤 ⟦ Γ ⟧ ⟦ Γ′ ⟧ → ent 𝓤 ⟦ Δ ++ Γ ⟧ ⟦ Δ ++ Γ′ ⟧
   tail⊢ Δ Γ Γ′ h = via 𝓤 (⟦ Δ ⟧ ∗ ⟦ Γ ⟧) (⊢++ 𝓤 H A Δ Γ) (via 𝓤 (⟦ Δ ⟧ ∗ ⟦ Γ′ ⟧) (monoR 𝓤 ⟦ Δ ⟧ h) (++⊢ 𝓤 H A Δ Γ′))
@@ -98,7 +99,6 @@ module _ {M : Type 1} (𝓤 : URA M) (H : Heap 𝓤) (A : Atoms 𝓤) where
       (via 𝓤 (mean 𝓤 H A i ∗ (mean 𝓤 H A d ∗ ⟦ Δ ++ Γ ⟧)) (swap (mean 𝓤 H A d) (mean 𝓤 H A i) ⟦ Δ ++ Γ ⟧)
       (via 𝓤 (mean 𝓤 H A i ∗ ⟦ d ∷ (Δ ++ Γ) ⟧) (monoR 𝓤 (mean 𝓤 H A i) (push 𝓤 H A d (Δ ++ Γ))) (push 𝓤 H A i (d ∷ (Δ ++ Γ))))))
 
--- the rule's facts φ are learned: `Unit` where it says nothing
 pub record Local {M : Type 1} {𝓤 : URA M} {H : Heap 𝓤} {A : Atoms 𝓤} (K : Type 0) (W : Given 𝓤 H A) (φ : Type 0) (Δ′ : List (Item 𝓤)) (G′ : Goal 𝓤 H) (Δ : List (Item 𝓤)) (G : Goal 𝓤 H) : Type 2 where
   pub go : (Γ : List (Item 𝓤)) → (φ → Seq K W (Δ′ ++ Γ) G′) → Seq K W (Δ ++ Γ) G
 
@@ -106,7 +106,7 @@ module _ {M : Type 1} {𝓤 : URA M} {H : Heap 𝓤} {A : Atoms 𝓤} {K : Type 
   pub learns : K → {φ : Type 0} (ks : List ℕ) → Local K W φ Δ′ G′ (only 𝓤 H A (rel [] ks) Γ) G → (φ → Seq K W (back 𝓤 H A (rel [] ks) Δ′ Γ) G′) → Seq K W Γ G
   learns t ks r k = record {
     prf =
-      via 𝓤 (⋆ 𝓤 H A (only 𝓤 H A (rel [] ks) Γ ++ rest 𝓤 H A (rel [] ks) Γ)) (out⊢ 𝓤 H A (rel [] ks) Γ)
+        via 𝓤 (⋆ 𝓤 H A (only 𝓤 H A (rel [] ks) Γ ++ rest 𝓤 H A (rel [] ks) Γ)) (out⊢ 𝓤 H A (rel [] ks) Γ)
         (r .go (rest 𝓤 H A (rel [] ks) Γ) (λ p. record { prf = via 𝓤 (⋆ 𝓤 H A (back 𝓤 H A (rel [] ks) Δ′ Γ)) (back⊢ 𝓤 H A (rel [] ks) Δ′ Γ) (k p .prf) }) .prf);
   }
 
@@ -151,13 +151,13 @@ module _ {M : Type 1} {𝓤 : URA M} {H : Heap 𝓤} {A : Atoms 𝓤} {K : Type 
   locals t [] s = alloc0 t $ nothing t $ s
   locals t (local τ h ∷ ls) {Γ} {Kt} s = alloc1 t (λ l. locals t ls {Γ = ‵ (froom τ l zero) ∷ ‵ (fdies τ l) ∷ Γ} {Kt = λ E. Kt ((τ, l) ∷ E)}
       (binds-map 𝓤 H ls (λ E. Seq K W (rooms 𝓤 H ((τ, l) ∷ E) ++ (‵ (rights 𝓤 H ((τ, l) ∷ E)) ∷ Γ)) (Kt ((τ, l) ∷ E)))
-        (λ E. Seq K W (rooms 𝓤 H E ++ (‵ (rights 𝓤 H E) ∷ ‵ (froom τ l zero) ∷ ‵ (fdies τ l) ∷ Γ)) (Kt ((τ, l) ∷ E)))
-        (λ E p. record { prf = via 𝓤 (⋆ 𝓤 H A (rooms 𝓤 H ((τ, l) ∷ E) ++ (‵ (rights 𝓤 H ((τ, l) ∷ E)) ∷ Γ))) (beside⊢ 𝓤 H A W τ l E Γ) (p .prf) }) (s l)))
+      (λ E. Seq K W (rooms 𝓤 H E ++ (‵ (rights 𝓤 H E) ∷ ‵ (froom τ l zero) ∷ ‵ (fdies τ l) ∷ Γ)) (Kt ((τ, l) ∷ E)))
+      (λ E p. record { prf = via 𝓤 (⋆ 𝓤 H A (rooms 𝓤 H ((τ, l) ∷ E) ++ (‵ (rights 𝓤 H ((τ, l) ∷ E)) ∷ Γ))) (beside⊢ 𝓤 H A W τ l E Γ) (p .prf) }) (s l)))
 
   pub frees-all : K → (E : Env 𝓤 H) {Γ : List (Item 𝓤)} {g : Goal 𝓤 H} → Step K W Γ g (rooms 𝓤 H E ++ (‵ (rights 𝓤 H E) ∷ Γ)) (frees E g)
   frees-all t [] = step (λ s. drop t $ free0 t $ s)
   frees-all t (e ∷ E) {Γ} {g} = step (λ s. record {
     prf =
-      via 𝓤 (⋆ 𝓤 H A (‵ (froom (e .0) (e .1) zero) ∷ ‵ (fdies (e .0) (e .1)) ∷ (rooms 𝓤 H E ++ (‵ (rights 𝓤 H E) ∷ Γ)))) (apart⊢ 𝓤 H A W (e .0) (e .1) E Γ)
+        via 𝓤 (⋆ 𝓤 H A (‵ (froom (e .0) (e .1) zero) ∷ ‵ (fdies (e .0) (e .1)) ∷ (rooms 𝓤 H E ++ (‵ (rights 𝓤 H E) ∷ Γ)))) (apart⊢ 𝓤 H A W (e .0) (e .1) E Γ)
         ((free1 t $ frees-all t E $ s) .prf);
   })
