@@ -276,6 +276,8 @@ promised 'crates/clampfern/must-fail/two: named, and there is no such edit' 's/^
 fails 'crates/text/must-fail/two: not named' 'touch crates/text/must-fail/two.edit'
 fails 'there is no row of a function' 'sed -i "s/^| function/| theorem/" docs/PROMISES.md'
 fails '' 'rm docs/PROMISES.md'
+fails 'not listed: model/specs/Limits.antt' 'sed -i "s/model.specs.Limits.antt, //" docs/PROMISES.md'
+fails 'listed, and internal or not there: model/specs/Some.antt' 'sed -i "1s/.*/-- Internal: no public promise cites this./" crates/model/specs/Some.antt'
 
 # ---- the dictionaries
 # listed SAYING CHANGE: a file of definitions with such a change.

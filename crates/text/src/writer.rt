@@ -13,10 +13,6 @@ ghost use Rattle.model.specs.declared.Refusal.the-variants.{TooShort};
 ghost use Rattle.text.specs.Hex.{glyphOf, digitsOf, lineOf, textOf};
 ghost use Rattle.text.specs.Records.{shareForm, sliceForm, lineSize};
 ghost use Rattle.text.specs.Output.{shareRecord, shareRecords, sliceRecord, planText, refusedText, Writes};
-use model::JOBS_MOST;
-use model::Kind;
-use model::Refusal;
-use model::SLICES_MOST;
 use super::Written;
 use super::records::COUNTS;
 use super::records::COUNTS_LINE;
@@ -26,6 +22,10 @@ use super::records::SHARE;
 use super::records::SHARE_LINE;
 use super::records::SLICE;
 use super::records::SLICE_LINE;
+use model::JOBS_MOST;
+use model::Kind;
+use model::Refusal;
+use model::SLICES_MOST;
 
 // Writes a plan's lines: 10 with the counts, 11 for each of n jobs by their ticks on each kind, 12 for each of k slices. Above what a column has, n and k
 // count as all. Ticks have 16 bits, as a line has for them: what a line cannot hold cannot be passed.
