@@ -10,6 +10,14 @@ ghost use Rattle.model.specs.Refusal.{andThen};
 ghost use Rattle.text.specs.Hex.{linesOf, nibbleOf, bytesOf};
 ghost use Rattle.text.specs.Input.{jobIn, entryJob, recordSays, lineSays, asJob, short, Reads};
 ghost use Rattle.text.specs.Reader.{lineIn, isThere, valueOf, digitsIn, isEnd, Spells, Numbered, SaysRecord, saysLine, saysRow, costsSaid, setFrom, GivesIn};
+use super::Entry;
+use super::Reading;
+use super::records::BOARD;
+use super::records::BOARD_SIZE;
+use super::records::COST_DIGITS;
+use super::records::HEAD_DIGITS;
+use super::records::JOB;
+use super::records::JOB_SIZE;
 use model::Board;
 use model::FirstTicks;
 use model::JOBS_MOST;
@@ -19,14 +27,6 @@ use model::Refusal;
 use model::SecondTicks;
 use model::TEXT_MOST;
 use model::cost;
-use super::Entry;
-use super::Reading;
-use super::records::BOARD;
-use super::records::BOARD_SIZE;
-use super::records::COST_DIGITS;
-use super::records::HEAD_DIGITS;
-use super::records::JOB;
-use super::records::JOB_SIZE;
 
 // A run of digits: the number that it spells, and where it ends.
 struct Run {

@@ -13,10 +13,6 @@ ghost use Rattle.model.specs.declared.Refusal.the-variants.{TooShort};
 ghost use Rattle.text.specs.Hex.{glyphOf, digitsOf, lineOf, textOf};
 ghost use Rattle.text.specs.Records.{shareForm, sliceForm, lineSize};
 ghost use Rattle.text.specs.Output.{shareRecord, shareRecords, sliceRecord, planText, refusedText, Writes};
-use model::JOBS_MOST;
-use model::Kind;
-use model::Refusal;
-use model::SLICES_MOST;
 use super::Written;
 use super::records::COUNTS;
 use super::records::COUNTS_LINE;
@@ -26,6 +22,10 @@ use super::records::SHARE;
 use super::records::SHARE_LINE;
 use super::records::SLICE;
 use super::records::SLICE_LINE;
+use model::JOBS_MOST;
+use model::Kind;
+use model::Refusal;
+use model::SLICES_MOST;
 
 // Writes a plan's lines: 10 with the counts, 11 for each of n jobs by their ticks on each kind, 12 for each of k slices. Above what a column has, n and k
 // count as all. Ticks have 16 bits, as a line has for them: what a line cannot hold cannot be passed.
@@ -39,16 +39,16 @@ pub fn write_plan(
 ) -> Written
     ensures { λ r. ⌜ Writes TooShort (now (text .entry)) (now (text .exit)) (planText (sharesIn (min n jobsMost) (now (first .entry)) (now (second .entry))) (slicesIn (min k slicesMost) (now (slices .entry)))) r ⌝ }
 {
-    let jobs = rows::at_most(n, JOBS_MOST);
-    let rows = rows::at_most(k, SLICES_MOST);
-    let after_shares = COUNTS_LINE + SHARE_LINE * jobs;
-    let size = after_shares + SLICE_LINE * rows;
+    let shared = rows::at_most(n, JOBS_MOST);
+    let sliced = rows::at_most(k, SLICES_MOST);
+    let after_shares = COUNTS_LINE + SHARE_LINE * shared;
+    let size = after_shares + SLICE_LINE * sliced;
     if text.len() < size {
         return Written::Refused(Refusal::TooShort);
     }
-    put_line(&[COUNTS, jobs as u8, rows as u8], text, 0);
-    put_shares(first, second, jobs, text, COUNTS_LINE);
-    put_slices(slices, rows, text, after_shares);
+    put_line(&[COUNTS, shared as u8, sliced as u8], text, 0);
+    put_shares(first, second, shared, text, COUNTS_LINE);
+    put_slices(slices, sliced, text, after_shares);
     Written::Bytes(size)
 }
 
