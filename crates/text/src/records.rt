@@ -1,5 +1,5 @@
-// The records of the text, each once for the code: its first byte, and how many bytes it has. specs/Records.antt has the same for the definitions, by the
-// fields of each.
+// The records of the text, each once for the code: its first byte, and how many bytes it has. specs/Records.antt has the same for the definitions, by
+// the fields of each.
 use model::JOBS_MOST;
 use model::SLICES_MOST;
 

@@ -27,8 +27,8 @@ use model::Kind;
 use model::Refusal;
 use model::SLICES_MOST;
 
-// Writes a plan's lines: 10 with the counts, 11 for each of n jobs by their ticks on each kind, 12 for each of k slices. Above what a column has, n and k
-// count as all. Ticks have 16 bits, as a line has for them: what a line cannot hold cannot be passed.
+// Writes a plan's lines: 10 with the counts, 11 for each of n jobs by their ticks on each kind, 12 for each of k slices. Above what a column has, n
+// and k count as all. Ticks have 16 bits, as a line has for them: what a line cannot hold cannot be passed.
 pub fn write_plan(
     first: &[u16; JOBS_MOST],
     second: &[u16; JOBS_MOST],
