@@ -25,7 +25,7 @@ use Rattle.model.proofs.Columns.{costs-back}
 use Rattle.split.specs.Shares.{sharesOf}
 use Rattle.split.proofs.Seen.{shares-seen}
 use Rattle.slices.specs.Table.{tableOf}
-use Rattle.planner.specs.Plan.{Plan, Counts, fitted, planOf, columnsOf, sharesGiven as sharesIn, slicesGiven as slicesIn, countsIn, saysPlanned}
+use Rattle.planner.specs.Plan.{Plan, Counts, fitted, planOf, columnsOf, sharesGiven, slicesGiven, countsIn, saysPlanned}
 use Rattle.planner.specs.Promise.{Columned}
 use Rattle.planner.specs.declared.Planned.{Planned}
 use Rattle.planner.specs.declared.Planned.the-variants.{Plan as Counted, Refused}
@@ -42,7 +42,15 @@ use Rattle.clampfern.proofs.Answers.{text-listed-small}
 use Rattle.clampfern.proofs.Bounds.{small, narrow}
 use Rattle.clampfern.proofs.Refusals.{text-listed}
 
+-- Columns that are as long as every set asks, and that hold nothing yet.
+abbrev zeros : List ℕ
+zeros = replicate jobsMost 0
+
+abbrev none-yet : List ℕ
+none-yet = replicate slicesMost 0
+
 module _ (board : Board) (js : List Job) where
+  -- The plan of a set, for tables that are long enough for every set.
   abbrev plan : Answer Plan
   plan = planOf board (length js) js jobsMost slicesMost
 
@@ -60,43 +68,42 @@ module _ (board : Board) (js : List Job) where
           rw (le-ltb jobsMost (length ss) (asks .few), le-ltb slicesMost (length (tableOf (board .window) ss)) (asks .rows))
       go (refused number place) is = refl
 
-  -- The code's columns, which are as long as every set asks.
-  module _ {n : ℕ} (size : length js ≡ n) {s1 s2 rows s1′ s2′ rows′ : List ℕ} {r : Planned} (c : Columned board n js s1 s2 rows r s1′ s2′ rows′)
-      (full1 : length s1 ≡ jobsMost) (full2 : length s2 ≡ jobsMost) (full : length rows ≡ slicesMost) where
-    same : columnsOf board n js (length s1) (length s2) (length rows) ≡ plan
-    same = rw (full1, full2, full, ← size) columns-plan
+module _ {board : Board} {n : ℕ} {js : List Job} {s1 s2 rows : List ℕ} {r : Planned} (c : Columned board n js zeros zeros none-yet r s1 s2 rows)
+    (size : length js ≡ n) where
+  same : columnsOf board n js jobsMost jobsMost slicesMost ≡ plan board js
+  same = rw (← size) (columns-plan board js)
 
-    pub columns-planned : {jobs k : ℕ} → r ≡ Counted jobs k
-        → planText (sharesFrom (min jobs jobsMost) s1′ s2′) (slicesFrom (min k slicesMost) rows′) ≡ linesFor (planOf board n js jobsMost slicesMost)
-    columns-planned {jobs} {k} is = rw (← size) (go plan refl (rw (is, same) at (c .says)) (rw same at (c .first)) (rw same at (c .second)) (rw same at (c .slices)))
+  pub columns-planned : {jobs k : ℕ} → r ≡ Counted jobs k
+      → planText (sharesFrom (min jobs jobsMost) s1 s2) (slicesFrom (min k slicesMost) rows) ≡ linesFor (planOf board n js jobsMost slicesMost)
+  columns-planned {jobs} {k} is = rw (← size) (go (plan board js) refl (rw (is, same) at (c .says)) (rw same at (c .first)) (rw same at (c .second)) (rw same at (c .slices)))
+    where
+      go : (x : Answer Plan) → plan board js ≡ x → saysPlanned (Counted jobs k) ≡ countsIn x → s1 ≡ front (map (ticksOn First) (sharesGiven x)) zeros
+          → s2 ≡ front (map (ticksOn Second) (sharesGiven x)) zeros → rows ≡ front (map packOf (slicesGiven x)) none-yet
+          → planText (sharesFrom (min jobs jobsMost) s1 s2) (slicesFrom (min k slicesMost) rows) ≡ linesFor x
+      go (given p) is says first second slices =
+          let counts : _≡_ {A = Counts} (record { jobs = jobs; slices = k }) (record { jobs = length (p .shares); slices = length (p .slices) }) = cc in
+          let within = small board js jobsMost slicesMost is in
+          let all-jobs : min jobs jobsMost ≡ length (p .shares) = omega (arith, ap (λ (c : Counts). c .jobs) counts, within .few-jobs) in
+          let all-rows : min k slicesMost ≡ length (p .slices) = omega (arith, ap (λ (c : Counts). c .slices) counts, within .few-slices) in
+          let ss-back : sharesFrom (min jobs jobsMost) s1 s2 ≡ p .shares = rw (all-jobs, first, second) (shares-front (p .shares) _ _) in
+          let rows-back : slicesFrom (min k slicesMost) rows ≡ p .slices = rw (all-rows, slices) (slices-front (p .slices) _ (narrow board js jobsMost slicesMost is)) in
+          rw (ss-back, rows-back)
+      go (refused number place) is says first second slices = never (cc)
+
+  module _ {refusal : Refusal} (is : r ≡ Refused refusal) where
+    plan-refused : plan board js ≡ saysRefusal refusal
+    plan-refused = go (plan board js) (rw (is, same) at (c .says))
       where
-        go : (x : Answer Plan) → plan ≡ x → saysPlanned (Counted jobs k) ≡ countsIn x → s1′ ≡ front (map (ticksOn First) (sharesIn x)) s1
-            → s2′ ≡ front (map (ticksOn Second) (sharesIn x)) s2 → rows′ ≡ front (map packOf (slicesIn x)) rows
-            → planText (sharesFrom (min jobs jobsMost) s1′ s2′) (slicesFrom (min k slicesMost) rows′) ≡ linesFor x
-        go (given p) is says first second slices =
-            let counts : _≡_ {A = Counts} (record { jobs = jobs; slices = k }) (record { jobs = length (p .shares); slices = length (p .slices) }) = cc in
-            let within = small board js jobsMost slicesMost is in
-            let all-jobs : min jobs jobsMost ≡ length (p .shares) = omega (arith, ap (λ (c : Counts). c .jobs) counts, within .few-jobs) in
-            let all-rows : min k slicesMost ≡ length (p .slices) = omega (arith, ap (λ (c : Counts). c .slices) counts, within .few-slices) in
-            let ss-back : sharesFrom (min jobs jobsMost) s1′ s2′ ≡ p .shares = rw (all-jobs, first, second) (shares-front (p .shares) _ _) in
-            let rows-back : slicesFrom (min k slicesMost) rows′ ≡ p .slices = rw (all-rows, slices) (slices-front (p .slices) _ (narrow board js jobsMost slicesMost is)) in
-            rw (ss-back, rows-back)
-        go (refused number place) is says first second slices = never (cc)
+        go : (x : Answer Plan) → saysPlanned (Refused refusal) ≡ countsIn x → x ≡ saysRefusal refusal
+        go (given p) says = never (cc)
+        go (refused number place) says = cc
 
-    module _ {refusal : Refusal} (is : r ≡ Refused refusal) where
-      plan-refused : plan ≡ saysRefusal refusal
-      plan-refused = go plan (rw (is, same) at (c .says))
-        where
-          go : (x : Answer Plan) → saysPlanned (Refused refusal) ≡ countsIn x → x ≡ saysRefusal refusal
-          go (given p) says = never (cc)
-          go (refused number place) says = cc
+    pub columns-refused : planOf board n js jobsMost slicesMost ≡ saysRefusal refusal
+    columns-refused = rw (← size) plan-refused
 
-      pub columns-refused : planOf board n js jobsMost slicesMost ≡ saysRefusal refusal
-      columns-refused = rw (← size) plan-refused
-
-      -- Its place is a job, or the count of all.
-      pub columns-place : placeOf refusal < 256
-      columns-place = omega (arith, listed-small (plan-listed board js jobsMost slicesMost _ _ plan-refused) .2)
+    -- Its place is a job, or the count of all.
+    pub columns-place : placeOf refusal < 256
+    columns-place = omega (arith, listed-small (plan-listed board js jobsMost slicesMost _ _ plan-refused) .2)
 
 -- ---- what was read
 plan-seen : (board : Board) (n : ℕ) (js : List Job) (m k : ℕ) → planOf board n (map seen js) m k ≡ planOf board n js m k
@@ -108,13 +115,9 @@ drop-replicate zero m x = simp unary-clauses
 drop-replicate (suc n) zero x = let e : 0 - suc n ≡ 0 = omega arith in rw e
 drop-replicate (suc n) (suc m) x = simp unary-clauses (drop-replicate n m x)
 
--- Columns that are as long as every set asks, and that have no cost before.
-abbrev zeros : List ℕ
-zeros = replicate jobsMost 0
-
 module _ (text : List ℕ) {c1 c2 : List ℕ} {r : Reading} (reads : Reads text zeros zeros r c1 c2) where
-  pub read-planned : (board : Board) (n : ℕ) → r ≡ Set board n → linesFor (planOf board n (jobsIn n c1 c2) jobsMost slicesMost) ≡ answerText text
-  read-planned board n is = go (inputOf text) reads
+  pub read-planned : {board : Board} {n : ℕ} → r ≡ Set board n → linesFor (planOf board n (jobsIn n c1 c2) jobsMost slicesMost) ≡ answerText text
+  read-planned {board} {n} is = go (inputOf text) reads
     where
       go : (x : Answer Input) → Gives x (inColumns x jobsMost jobsMost) zeros zeros r c1 c2
           → linesFor (planOf board n (jobsIn n c1 c2) jobsMost slicesMost) ≡ linesFor (andThen x planned)
@@ -123,7 +126,7 @@ module _ (text : List ℕ) {c1 c2 : List ℕ} {r : Reading} (reads : Reads text 
           rw (g .first, g .second, length-map (input .jobs) (costOn First), length-map (input .jobs) (costOn Second), drop-replicate (length (input .jobs)) jobsMost 0, ap (λ (h : Head). h .board) head, ap (λ (h : Head). h .count) head, costs-back (input .jobs) (g .few), plan-seen (input .board) (length (input .jobs)) (input .jobs) jobsMost slicesMost)
       go (refused number place) g = never (cc)
 
-  module _ (refusal : Refusal) (is : r ≡ Unread refusal) where
+  module _ {refusal : Refusal} (is : r ≡ Unread refusal) where
     pub read-refused : inputOf text ≡ saysRefusal refusal
     read-refused = go (inputOf text) reads
       where

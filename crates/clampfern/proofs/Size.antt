@@ -11,11 +11,11 @@ use Rattle.model.specs.Limits.{jobsMost, slicesMost}
 use Rattle.model.specs.Refusal.{Answer, given, refused, andThen}
 use Rattle.model.proofs.Splits.{all-done-length}
 use Rattle.planner.proofs.Examples.{board, jobs, most-slices}
-use Rattle.planner.specs.Plan.{Plan, planOf, slicesGiven as slicesIn}
+use Rattle.planner.specs.Plan.{Plan, planOf, slicesGiven}
 use Rattle.planner.proofs.PlanLaws.{plan-kept}
 use Rattle.text.specs.Hex.{linesOf, nibbleOf, pairsOf, bytesOf, digitsOf, textOf, numberFrom}
 use Rattle.text.specs.Input.{Input, jobIn, entryOf, jobsFrom, inputFrom, inputOf}
-use Rattle.text.specs.Records.{refusalForm, lineSize}
+use Rattle.text.specs.Records.{boardForm, jobForm, refusalForm, lineSize, recordOf}
 use Rattle.text.specs.Output.{answerMost}
 use Rattle.text.proofs.PlanText.{plan-length}
 use Rattle.clampfern.specs.Answer.{planned, linesFor, answerText}
@@ -41,13 +41,15 @@ answer-size text = go (inputOf text) where
   go (given input) = plan-size input (planned input) refl
   go (refused number place) = refused-size number place
 
--- The set of planner/proofs/Examples.antt as a text: 0103e80808, then its jobs.
+-- The set of planner/proofs/Examples.antt, which has as many slices as any, as a text.
+abbrev jobRecord : (allowed c1 c2 : ℕ) → List ℕ
+jobRecord allowed c1 c2 = recordOf jobForm (allowed ∷ c1 ∷ c2 ∷ [])
+
 abbrev asked : List ℕ
 asked =
     textOf
-    ((1 ∷ 3 ∷ 232 ∷ 8 ∷ 8 ∷ [])
-    ∷ (replicate 15 (2 ∷ 0 ∷ 0 ∷ 0 ∷ 3 ∷ 32 ∷ 0 ∷ 0 ∷ 5 ∷ 58 ∷ []) ++ (2 ∷ 0 ∷ 0 ∷ 0 ∷ 1 ∷ 144 ∷ 0 ∷ 0 ∷ 3 ∷ 132 ∷ [])
-    ∷ (replicate 24 (2 ∷ 1 ∷ 0 ∷ 0 ∷ 0 ∷ 10 ∷ 0 ∷ 0 ∷ 0 ∷ 0 ∷ []) ++ replicate 24 (2 ∷ 2 ∷ 0 ∷ 0 ∷ 0 ∷ 0 ∷ 0 ∷ 0 ∷ 0 ∷ 5 ∷ []))))
+    (recordOf boardForm (1000 ∷ 8 ∷ 8 ∷ [])
+    ∷ (replicate 15 (jobRecord 0 800 1338) ++ jobRecord 0 400 900 ∷ (replicate 24 (jobRecord 1 10 0) ++ replicate 24 (jobRecord 2 0 5))))
 
 asked-read : inputOf asked ≡ given (record { board = board; jobs = jobs })
 unfolding linesOf nibbleOf pairsOf bytesOf digitsOf textOf numberFrom jobIn entryOf jobsFrom inputFrom inputOf
@@ -55,7 +57,7 @@ asked-read = refl
 
 pub most-answered : length (answerText asked) ≡ answerMost
 most-answered = rw asked-read (go (planOf board jobsMost jobs jobsMost slicesMost) refl most-slices) where
-  go : (x : Answer Plan) → planOf board jobsMost jobs jobsMost slicesMost ≡ x → length (slicesIn x) ≡ slicesMost → length (linesFor x) ≡ answerMost
+  go : (x : Answer Plan) → planOf board jobsMost jobs jobsMost slicesMost ≡ x → length (slicesGiven x) ≡ slicesMost → length (linesFor x) ≡ answerMost
   go (given p) is most =
       plan-length (p .shares) (p .slices) jobsMost slicesMost (all-done-length (board .window) 1 jobs (p .shares) (plan-kept board jobsMost jobs jobsMost slicesMost is .whole .done)) most
   go (refused number place) is most = absurd (omega arith)

@@ -1,5 +1,5 @@
--- Internal: no public promise cites this. The theorems on the page of demands do, so read it with them. The refusals of a text, each by its number, with
--- its place and its cause: docs/SPEC.md, "The text", in the order in which a text is read and its set is planned.
+-- Internal: no public promise cites this. The theorems on the page of demands do, so read it with them. The refusals of a text, each by its number,
+-- with its place and its cause: docs/SPEC.md, "The text", in the order in which a text is read and its set is planned.
 --   lineAt       line i of a text, from 1
 --   lastLine     the last line that is read
 --   Good         a line as an input has it there: a board first, then jobs

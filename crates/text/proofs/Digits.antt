@@ -13,7 +13,7 @@ use lib.Seq.{drop-cons, drop-drop, length-take-le}
 use Rattle.rows.specs.Lists.{All}
 use Rattle.rows.proofs.Never.{never}
 use Rattle.text.specs.Hex.{Maybe, none, some, nibbleOf, byteOf, atFront, pairsOf, bytesOf, numberFrom, numberIn}
-use Rattle.text.specs.Reader.{lineLength, lineIn, isThere, valueOf, digitThen, digitsIn, hexFrom, hexIn, isEnd, Spells, Numbered, HoldsRecord}
+use Rattle.text.specs.Reader.{lineLength, lineIn, isThere, valueOf, digitThen, digitsIn, hexFrom, hexIn, isEnd, Spells, headSize, costSize, headDigits, costDigits, Numbered, HoldsRecord}
 use Rattle.text.specs.declared.reader.Numbers.{Numbers}
 use Rattle.text.specs.declared.reader.Run.{Run}
 use Rattle.text.proofs.Lines.{lineLength-fits}
@@ -96,18 +96,20 @@ module _ (text : List ℕ) where
   parts : (m : ℕ) (l : List ℕ) → length (take m l) + length (drop m l) ≡ length l
   parts m l = sym (length-append (take m l) (drop m l)) ∙ ap length (take-append-drop m l)
 
-  pub line-numbers : (from : ℕ) (r1 r2 r3 : Run) (end : ℕ) → Spells (digitsIn (drop from text)) from 4 r1 → Spells (digitsIn (drop (r1 .end) text)) (r1 .end) 8 r2
-      → Spells (digitsIn (drop (r2 .end) text)) (r2 .end) 8 r3 → end ≡ r3 .end + length (digitsIn (drop (r3 .end) text))
+  pub line-numbers : (from : ℕ) (r1 r2 r3 : Run) (end : ℕ) → Spells (digitsIn (drop from text)) from headDigits r1
+      → Spells (digitsIn (drop (r1 .end) text)) (r1 .end) costDigits r2 → Spells (digitsIn (drop (r2 .end) text)) (r2 .end) costDigits r3
+      → end ≡ r3 .end + length (digitsIn (drop (r3 .end) text))
       → Numbered (digitsIn (drop from text)) from (record { head = r1 .value; a = r2 .value; b = r3 .value; end = end })
   line-numbers from r1 r2 r3 end s1 s2 s3 e =
-      let d1 = after from 4 r1 s1 in
-      let d2 = after (r1 .end) 8 r2 s2 in
-      let d3 = after (r2 .end) 8 r3 s3 in
-      let d12 : digitsIn (drop (r2 .end) text) ≡ drop 12 (digitsIn (drop from text)) = d2 ∙ ap (drop 8) d1 ∙ drop-drop 8 4 (digitsIn (drop from text)) in
+      let d1 = after from headDigits r1 s1 in
+      let d2 = after (r1 .end) costDigits r2 s2 in
+      let d3 = after (r2 .end) costDigits r3 s3 in
+      let d12 : digitsIn (drop (r2 .end) text) ≡ drop (headDigits + costDigits) (digitsIn (drop from text)) =
+      d2 ∙ ap (drop costDigits) d1 ∙ drop-drop costDigits headDigits (digitsIn (drop from text)) in
       record {
         head = s1 .value;
-        a = s2 .value ∙ ap (λ (l : List ℕ). hexIn (take 8 l)) d1;
-        b = s3 .value ∙ ap (λ (l : List ℕ). hexIn (take 8 l)) d12;
+        a = s2 .value ∙ ap (λ (l : List ℕ). hexIn (take costDigits l)) d1;
+        b = s3 .value ∙ ap (λ (l : List ℕ). hexIn (take costDigits l)) d12;
         end =
             omega (
               arith,
@@ -118,9 +120,9 @@ module _ (text : List ℕ) where
               ap length d1,
               ap length d2,
               ap length d3,
-              parts 4 (digitsIn (drop from text)),
-              parts 8 (digitsIn (drop (r1 .end) text)),
-              parts 8 (digitsIn (drop (r2 .end) text)),
+              parts headDigits (digitsIn (drop from text)),
+              parts costDigits (digitsIn (drop (r1 .end) text)),
+              parts costDigits (digitsIn (drop (r2 .end) text)),
             );
       }
 
@@ -325,7 +327,7 @@ module _ (bs : List ℕ) (there : isThere (bytesOf (lineIn bs)) ≡ true) where
       record {
         size-is = omega (arith, n .end, paired-length p);
         small = paired-small p;
-        head = n .head ∙ paired-number p 2 0;
-        a = n .a ∙ paired-number p 4 2;
-        b = n .b ∙ paired-number p 4 6;
+        head = n .head ∙ paired-number p headSize 0;
+        a = n .a ∙ paired-number p costSize headSize;
+        b = n .b ∙ paired-number p costSize (headSize + costSize);
       }

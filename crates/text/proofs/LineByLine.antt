@@ -1,5 +1,5 @@
--- The turns of the reader's loop over the lines of jobs. The idea: what the lines from here on give, put behind the jobs so far, is what all lines give.
--- Assumes nothing.
+-- The turns of the reader's loop over the lines of jobs. The idea: what the lines from here on give, put behind the jobs so far, is what all lines
+-- give. Assumes nothing.
 use mathlib.Core.Bool.{Bool, true, false, cond}
 use mathlib.Core.List.{List, [], _∷_, _++_, map, append-assoc, append-nil}
 use mathlib.Core.Path.{_≡_, refl, sym, _∙_, ap}

@@ -11,6 +11,8 @@
 --   Spells       a run of digits, as many as are asked for or as there are: its number, and where it ends
 --   headSize     the bytes of a job before its costs
 --   costSize     the bytes of a cost
+--   headDigits   the digits of those before the costs
+--   costDigits   the digits of a cost
 --   Numbered     the numbers of a line's digits, cut as those of a job are, and where they end
 --   HoldsRecord  the numbers of a record of so many bytes, cut as a job is
 --   saysLine     what the code's answer on a line says
@@ -89,11 +91,16 @@ headSize = 1 + getD (jobForm .widths) 0 0
 abbrev pub costSize : ℕ
 costSize = getD (jobForm .widths) 1 0
 
--- Two digits for each byte.
+abbrev pub headDigits : ℕ
+headDigits = 2 * headSize
+
+abbrev pub costDigits : ℕ
+costDigits = 2 * costSize
+
 pub record Numbered (ds : List ℕ) (from : ℕ) (line : Numbers) : Type 0 where
-  pub head : line .head ≡ hexIn (take (2 * headSize) ds)
-  pub a : line .a ≡ hexIn (take (2 * costSize) (drop (2 * headSize) ds))
-  pub b : line .b ≡ hexIn (take (2 * costSize) (drop (2 * (headSize + costSize)) ds))
+  pub head : line .head ≡ hexIn (take headDigits ds)
+  pub a : line .a ≡ hexIn (take costDigits (drop headDigits ds))
+  pub b : line .b ≡ hexIn (take costDigits (drop (headDigits + costDigits) ds))
   pub end : line .end ≡ from + length ds
 
 pub record HoldsRecord (bs : List ℕ) (size : ℕ) (line : Numbers) : Type 0 where

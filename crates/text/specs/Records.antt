@@ -1,5 +1,5 @@
--- The records of the text, each written out here and nowhere else: docs/SPEC.md, "The text". A record is a first byte, which tells what it is, and then
--- its fields: numbers, each in so many bytes, the high byte first.
+-- The records of the text, each written out here and nowhere else: docs/SPEC.md, "The text". A record is a first byte, which tells what it is, and
+-- then its fields: numbers, each in so many bytes, the high byte first.
 --   Form          what a record looks like: its first byte, and the bytes that each of its fields has
 --   boardForm     W, the cores of the first kind, those of the second
 --   jobForm       the kinds that are allowed (0 both, 1 first, 2 second), the cost on the first kind, that on the second

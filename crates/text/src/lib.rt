@@ -1,5 +1,5 @@
-// The text: lines of hexadecimal, one record a line (docs/SPEC.md, "The text"). A reader of an input (a board, then jobs) into columns that the caller
-// lends, and writers of a plan's lines and of a refusal's line into a text that the caller lends. What the records are stands in records.rt.
+// The text: lines of hexadecimal, one record a line (docs/SPEC.md, "The text"). A reader of an input (a board, then jobs) into columns that the
+// caller lends, and writers of a plan's lines and of a refusal's line into a text that the caller lends. What the records are stands in records.rt.
 mod reader;
 mod records;
 mod writer;

@@ -282,8 +282,8 @@ fn read_jobs(
     Reading::Set(board, n)
 }
 
-// What a text says, with what the jobs cost on each kind at the front of two columns. A refusal changes none of them. Columns that are too short for some
-// set are refused by 7, last of all.
+// What a text says, with what the jobs cost on each kind at the front of two columns. A refusal changes none of them. Columns that are too short for
+// some set are refused by 7, last of all.
 pub fn read(text: &[u8], first: &mut [u32], second: &mut [u32]) -> Reading
     ensures { λ r. ⌜ Reads (now (text .entry)) (now (first .entry)) (now (second .entry)) r (now (first .exit)) (now (second .exit)) ⌝ }
 {

@@ -1,5 +1,5 @@
-// The records of the text, each once for the code: its first byte, and how many bytes it has. specs/Records.antt has the same for the definitions, by the
-// fields of each.
+// The records of the text, each once for the code: its first byte, and how many bytes it has. specs/Records.antt has the same for the definitions, by
+// the fields of each.
 use model::JOBS_MOST;
 use model::SLICES_MOST;
 
@@ -9,12 +9,12 @@ pub const BOARD_SIZE: usize = 5;
 
 pub const JOB: u32 = 0x02;
 
-pub const JOB_SIZE: usize = 10;
+// The first byte with the allowed kinds, and each of the two costs. The reader cuts a line so.
+const HEAD_SIZE: usize = 2;
 
-// The digits of a job's first byte with its allowed kinds, and those of each of its costs.
-pub const HEAD_DIGITS: usize = 4;
+const COST_SIZE: usize = 4;
 
-pub const COST_DIGITS: usize = 8;
+pub const JOB_SIZE: usize = HEAD_SIZE + 2 * COST_SIZE;
 
 pub const COUNTS: u8 = 0x10;
 
@@ -32,7 +32,12 @@ pub const REFUSAL: u8 = 0x1f;
 
 const REFUSAL_SIZE: usize = 3;
 
-// The bytes of a line: two digits for each byte of its record, and a line feed.
+// Each byte is two digits.
+pub const HEAD_DIGITS: usize = 2 * HEAD_SIZE;
+
+pub const COST_DIGITS: usize = 2 * COST_SIZE;
+
+// The bytes of a line: the digits of its record, and a line feed.
 pub const COUNTS_LINE: usize = 2 * COUNTS_SIZE + 1;
 
 pub const SHARE_LINE: usize = 2 * SHARE_SIZE + 1;

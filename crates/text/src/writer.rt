@@ -27,8 +27,8 @@ use model::Kind;
 use model::Refusal;
 use model::SLICES_MOST;
 
-// Writes a plan's lines: 10 with the counts, 11 for each of n jobs by their ticks on each kind, 12 for each of k slices. Above what a column has, n and k
-// count as all. Ticks have 16 bits, as a line has for them: what a line cannot hold cannot be passed.
+// Writes a plan's lines: 10 with the counts, 11 for each of n jobs by their ticks on each kind, 12 for each of k slices. Above what a column has, n
+// and k count as all. Ticks have 16 bits, as a line has for them: what a line cannot hold cannot be passed.
 pub fn write_plan(
     first: &[u16; JOBS_MOST],
     second: &[u16; JOBS_MOST],
@@ -39,16 +39,16 @@ pub fn write_plan(
 ) -> Written
     ensures { λ r. ⌜ Writes TooShort (now (text .entry)) (now (text .exit)) (planText (sharesIn (min n jobsMost) (now (first .entry)) (now (second .entry))) (slicesIn (min k slicesMost) (now (slices .entry)))) r ⌝ }
 {
-    let jobs = rows::at_most(n, JOBS_MOST);
-    let rows = rows::at_most(k, SLICES_MOST);
-    let after_shares = COUNTS_LINE + SHARE_LINE * jobs;
-    let size = after_shares + SLICE_LINE * rows;
+    let shared = rows::at_most(n, JOBS_MOST);
+    let sliced = rows::at_most(k, SLICES_MOST);
+    let after_shares = COUNTS_LINE + SHARE_LINE * shared;
+    let size = after_shares + SLICE_LINE * sliced;
     if text.len() < size {
         return Written::Refused(Refusal::TooShort);
     }
-    put_line(&[COUNTS, jobs as u8, rows as u8], text, 0);
-    put_shares(first, second, jobs, text, COUNTS_LINE);
-    put_slices(slices, rows, text, after_shares);
+    put_line(&[COUNTS, shared as u8, sliced as u8], text, 0);
+    put_shares(first, second, shared, text, COUNTS_LINE);
+    put_slices(slices, sliced, text, after_shares);
     Written::Bytes(size)
 }
 

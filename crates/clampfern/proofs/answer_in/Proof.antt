@@ -1,9 +1,7 @@
 -- `clampfern::answer_in` meets its contract: the columns that it owns are long enough for every set, so what was planned has the lines of its plan.
 -- Assumes nothing.
-use mathlib.Core.Path.{refl}
 use borrow.Author.Needs.{needs}
 use Rattle.rows.proofs.Upto.{upto-length}
-use Rattle.model.specs.Columns.{jobsIn}
 use Rattle.clampfern.proofs.Lines.{columns-planned, columns-refused, columns-place}
 use Rattle.clampfern.proofs.answer_in.Statement.{statement}
 use Rattle.clampfern.proofs.answer_in.Tie as tie
@@ -26,9 +24,7 @@ enum-known-planned c = search needs
 write-refused-requires : tie.Need-write-refused-requires
 write-refused-requires c κs =
     let told = c .before .before in
-    let called = told .before .before .before .before .before in
-    let a = called .before .before .before .before .before .args in
-    columns-place (a .board) (jobsIn (a .n) (a .first .now) (a .second .now)) (upto-length (a .n) _) (called .plan-columns .ensures) refl refl refl (told .planned .given .1)
+    columns-place (told .before .before .before .before .before .plan-columns .ensures) (upto-length _ _) (told .planned .given .1)
 
 enum-known-planned-2 : tie.Need-enum-known-planned-2
 enum-known-planned-2 c = search needs
@@ -43,9 +39,7 @@ returns : tie.Need-returns
 returns c =
     let told = c .before .before .before .before .before in
     let called = told .before .before .before .before .before in
-    let a = called .before .before .before .before .before .args in
-    rw (columns-refused (a .board) (jobsIn (a .n) (a .first .now) (a .second .now)) (upto-length (a .n) _) (called .plan-columns .ensures) refl refl refl (told .planned .given .1))
-    (c .before .before .write-refused .ensures)
+    rw (columns-refused (called .plan-columns .ensures) (upto-length _ _) (told .planned .given .1)) (c .before .before .write-refused .ensures)
 
 same-length-2 : tie.Need-same-length-2
 same-length-2 c = search needs
@@ -54,9 +48,7 @@ returns-2 : tie.Need-returns-2
 returns-2 c =
     let told = c .before .before .before .before .before .before .before .before in
     let called = told .before .before .before .before .before in
-    let a = called .before .before .before .before .before .args in
-    rw (← (columns-planned (a .board) (jobsIn (a .n) (a .first .now) (a .second .now)) (upto-length (a .n) _) (called .plan-columns .ensures) refl refl refl (told .planned2 .given .1)))
-    (c .before .before .write-plan .ensures)
+    rw (← (columns-planned (called .plan-columns .ensures) (upto-length _ _) (told .planned2 .given .1))) (c .before .before .write-plan .ensures)
 
 pub answer-in-spec : {M : Type 1} → statement M
 answer-in-spec =

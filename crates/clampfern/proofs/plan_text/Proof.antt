@@ -19,7 +19,7 @@ enum-known-refusal c = search needs
 write-refused-requires : tie.Need-write-refused-requires
 write-refused-requires c κs =
     let told = c .before .before in
-    read-place _ (told .before .before .before .before .read .ensures) _ (told .refusal .given .1)
+    read-place _ (told .before .before .before .before .read .ensures) (told .refusal .given .1)
 
 enum-known-board : tie.Need-enum-known-board
 enum-known-board c = search needs
@@ -34,7 +34,7 @@ returns : tie.Need-returns
 returns c =
     let told = c .before .before .before .before .before in
     let called = told .before .before .before .before in
-    rw (read-refused _ (called .read .ensures) _ (told .refusal .given .1)) (c .before .before .write-refused .ensures)
+    rw (read-refused _ (called .read .ensures) (told .refusal .given .1)) (c .before .before .write-refused .ensures)
 
 same-length-2 : tie.Need-same-length-2
 same-length-2 c = search needs
@@ -43,7 +43,7 @@ returns-2 : tie.Need-returns-2
 returns-2 c =
     let told = c .before .before .before .before .before .before .before in
     let called = told .before .before .before .before in
-    rw (← (read-planned _ (called .read .ensures) _ _ (told .board .given .1))) (c .before .before .answer-in .ensures)
+    rw (← (read-planned _ (called .read .ensures) (told .board .given .1))) (c .before .before .answer-in .ensures)
 
 pub plan-text-spec : {M : Type 1} → statement M
 plan-text-spec =

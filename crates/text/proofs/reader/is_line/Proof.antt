@@ -1,4 +1,5 @@
--- `text::reader::is_line` meets its contract: a line spells a record where its digits are some, an even number, and end where it does. Assumes nothing.
+-- `text::reader::is_line` meets its contract: a line spells a record where its digits are some, an even number, and end where it does. Assumes
+-- nothing.
 use mathlib.Core.Path.{_≡_, sym, _∙_}
 use Prim.Native.Nat.{_-_}
 use native.Mathlib.Omega.{arith}

@@ -1,4 +1,5 @@
--- `text::reader::job_in` meets its contract: at each answer, the allowed byte and the cost that has to be 0 decide the tests of `jobIn`. Assumes nothing.
+-- `text::reader::job_in` meets its contract: at each answer, the allowed byte and the cost that has to be 0 decide the tests of `jobIn`. Assumes
+-- nothing.
 use borrow.Author.Tests.{ne-eqb}
 use Rattle.text.specs.Input.{jobIn}
 use Rattle.text.proofs.reader.job_in.Statement.{statement}

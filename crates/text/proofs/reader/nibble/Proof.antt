@@ -1,4 +1,5 @@
--- `text::reader::nibble` meets its contract: at each answer, which of the three ranges the byte is in decides the tests of `nibbleOf`. Assumes nothing.
+-- `text::reader::nibble` meets its contract: at each answer, which of the three ranges the byte is in decides the tests of `nibbleOf`. Assumes
+-- nothing.
 use mathlib.Core.Path.{_≡_}
 use Prim.Native.Nat.{ℕ, _<_, _≤_, _-_}
 use native.Mathlib.Omega.{arith}

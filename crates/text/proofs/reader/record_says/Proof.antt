@@ -1,4 +1,5 @@
--- `text::reader::record_says` meets its contract: at each answer, how many digits there are and the first byte decide what the record says. Assumes nothing.
+-- `text::reader::record_says` meets its contract: at each answer, the first byte and how many bytes there are decide what the record says. Assumes
+-- nothing.
 use native.Mathlib.Omega.{arith}
 use borrow.Author.Needs.{needs}
 use Rattle.text.proofs.Entries.{holds-job, holds-board, holds-none}

@@ -1,5 +1,5 @@
--- `text::reader::run_of` meets its contract. The loop's invariant: the number so far, with the digits that are left of those asked for, spells what all
--- of them spell and ends where they do, and it is below 16 to the power of the digits that were read. Assumes nothing.
+-- `text::reader::run_of` meets its contract. The loop's invariant: the number so far, with the digits that are left of those asked for, spells what
+-- all of them spell and ends where they do, and it is below 16 to the power of the digits that were read. Assumes nothing.
 use mathlib.Core.List.{List, [], _∷_}
 use mathlib.Core.Path.{_≡_, refl, sym, ap, _∙_}
 use Prim.Native.Nat.{ℕ, zero, suc, _+_, _-_, _*_, _^_, _≤_, _<_}
