@@ -1,14 +1,15 @@
 -- `facts::are_packed_marks` meets its contract: the rows are counted up to 94. Assumes nothing.
 use Prim.Native.Nat.{_≤_, _-_}
 use borrow.Author.Needs.{needs}
+use Rattle.model.specs.Limits.{slicesMost}
 use Rattle.facts.proofs.are_packed_marks.Statement.{statement}
 use Rattle.facts.proofs.are_packed_marks.Tie as tie
 
 abbrev Inv-loop : tie.InvT-loop
-Inv-loop column i₀ i = i ≤ 94
+Inv-loop column i₀ i = i ≤ slicesMost
 
 abbrev μ-loop : tie.MeasureT-loop
-μ-loop column i₀ i = 94 - i
+μ-loop column i₀ i = slicesMost - i
 
 loop-holds : tie.Need-loop-holds Inv-loop μ-loop
 loop-holds c = search needs

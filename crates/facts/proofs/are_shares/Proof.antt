@@ -1,14 +1,15 @@
 -- `facts::are_shares` meets its contract: the rows are counted up to 64. Assumes nothing.
 use Prim.Native.Nat.{_≤_, _-_}
 use borrow.Author.Needs.{needs}
+use Rattle.model.specs.Limits.{jobsMost}
 use Rattle.facts.proofs.are_shares.Statement.{statement}
 use Rattle.facts.proofs.are_shares.Tie as tie
 
 abbrev Inv-loop : tie.InvT-loop
-Inv-loop n rows plan i₀ i = i ≤ 64
+Inv-loop n rows plan i₀ i = i ≤ jobsMost
 
 abbrev μ-loop : tie.MeasureT-loop
-μ-loop n rows plan i₀ i = 64 - i
+μ-loop n rows plan i₀ i = jobsMost - i
 
 loop-holds : tie.Need-loop-holds Inv-loop μ-loop
 loop-holds c = search needs

@@ -1,14 +1,15 @@
 -- `facts::are_slices` meets its contract: the rows are counted up to 94. Assumes nothing.
 use Prim.Native.Nat.{_≤_, _-_}
 use borrow.Author.Needs.{needs}
+use Rattle.model.specs.Limits.{slicesMost}
 use Rattle.facts.proofs.are_slices.Statement.{statement}
 use Rattle.facts.proofs.are_slices.Tie as tie
 
 abbrev Inv-loop : tie.InvT-loop
-Inv-loop n rows plan i₀ i = i ≤ 94
+Inv-loop n rows plan i₀ i = i ≤ slicesMost
 
 abbrev μ-loop : tie.MeasureT-loop
-μ-loop n rows plan i₀ i = 94 - i
+μ-loop n rows plan i₀ i = slicesMost - i
 
 loop-holds : tie.Need-loop-holds Inv-loop μ-loop
 loop-holds c = search needs

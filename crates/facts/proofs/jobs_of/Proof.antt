@@ -1,14 +1,15 @@
 -- `facts::jobs_of` meets its contract: the rows are counted up to 64. Assumes nothing.
 use Prim.Native.Nat.{_≤_, _-_}
 use borrow.Author.Needs.{needs}
+use Rattle.model.specs.Limits.{jobsMost}
 use Rattle.facts.proofs.jobs_of.Statement.{statement}
 use Rattle.facts.proofs.jobs_of.Tie as tie
 
 abbrev Inv-loop : tie.InvT-loop
-Inv-loop first second jobs₀ i₀ jobs i = i ≤ 64
+Inv-loop first second jobs₀ i₀ jobs i = i ≤ jobsMost
 
 abbrev μ-loop : tie.MeasureT-loop
-μ-loop first second jobs₀ i₀ jobs i = 64 - i
+μ-loop first second jobs₀ i₀ jobs i = jobsMost - i
 
 loop-holds : tie.Need-loop-holds Inv-loop μ-loop
 loop-holds c = search needs

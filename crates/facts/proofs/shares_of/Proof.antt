@@ -1,14 +1,15 @@
 -- `facts::shares_of` meets its contract: the rows are counted up to 64. Assumes nothing.
 use Prim.Native.Nat.{_≤_, _-_}
 use borrow.Author.Needs.{needs}
+use Rattle.model.specs.Limits.{jobsMost}
 use Rattle.facts.proofs.shares_of.Statement.{statement}
 use Rattle.facts.proofs.shares_of.Tie as tie
 
 abbrev Inv-loop : tie.InvT-loop
-Inv-loop first second shares₀ i₀ shares i = i ≤ 64
+Inv-loop first second shares₀ i₀ shares i = i ≤ jobsMost
 
 abbrev μ-loop : tie.MeasureT-loop
-μ-loop first second shares₀ i₀ shares i = 64 - i
+μ-loop first second shares₀ i₀ shares i = jobsMost - i
 
 share-mark-requires : tie.Need-share-mark-requires Inv-loop μ-loop
 share-mark-requires c κs = search needs

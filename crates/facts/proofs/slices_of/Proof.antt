@@ -1,14 +1,15 @@
 -- `facts::slices_of` meets its contract: the rows are counted up to 94. Assumes nothing.
 use Prim.Native.Nat.{_≤_, _-_}
 use borrow.Author.Needs.{needs}
+use Rattle.model.specs.Limits.{slicesMost}
 use Rattle.facts.proofs.slices_of.Statement.{statement}
 use Rattle.facts.proofs.slices_of.Tie as tie
 
 abbrev Inv-loop : tie.InvT-loop
-Inv-loop packed slices₀ i₀ slices i = i ≤ 94
+Inv-loop packed slices₀ i₀ slices i = i ≤ slicesMost
 
 abbrev μ-loop : tie.MeasureT-loop
-μ-loop packed slices₀ i₀ slices i = 94 - i
+μ-loop packed slices₀ i₀ slices i = slicesMost - i
 
 slice-mark-requires : tie.Need-slice-mark-requires Inv-loop μ-loop
 slice-mark-requires c κs = search needs
