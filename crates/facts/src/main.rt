@@ -304,7 +304,7 @@ fn plan_in_columns(board: Board, jobs: [Job; JOBS_MOST], n: usize) -> Columns {
         &mut packed,
     );
     Columns {
-        planned: planned,
+        planned,
         shares: shares_of(shares1, shares2),
         slices: slices_of(packed),
     }
@@ -422,8 +422,8 @@ fn is_right_at_the_edge(
     true
 }
 
-// Whether the lent call into long tables answered as `moves` and the call over columns did, and left the rows of the columns; and where there is a plan, whether the moves
-// are those of the rows that were written, the call is right at the edge, and the call over columns refuses short ones.
+// Whether the lent call into long tables answered as `moves` and the call over columns did, and left the rows of the columns; and where there is a
+// plan, whether the moves are those of the rows that were written, the call is right at the edge, and the call over columns refuses short ones.
 fn is_right(board: Board, jobs: [Job; JOBS_MOST], n: usize, lent: Lent, moved: PlannedMoves) -> bool
     requires { ⌜ n ≤ jobsMost ⌝ }
 {

@@ -87,7 +87,8 @@ fn call_of(got: isize, spare: usize) -> Call
     }
 }
 
-// The size of a number, without its sign, for who writes it in digits. That of one below zero is counted from −1, since the size of the lowest number is none of its type.
+// The size of a number, without its sign, for who writes it in digits. That of one below zero is counted from −1, since the size of the lowest
+// number is none of its type.
 pub fn size_of(n: i64) -> u64
     ensures { λ r. ⌜ r ≡ natAbs n ⌝ }
 {

@@ -1,5 +1,6 @@
-// Runs the split on the worked sets of the rules (split/proofs/Examples.antt has their answers), among them Table I of the paper (docs/SOURCES.md), and on
-// sets that every check refuses. A line each: the starting balance of the two kinds, then the shares, or the refusal's number and place.
+// Runs the split on the worked sets of the rules (split/proofs/Examples.antt has their answers), among them the set of the paper's Table I
+// (docs/SOURCES.md), and on sets that every check refuses. A line each: the starting balance of the two kinds, then the shares, or the refusal's
+// number and place.
 use libc::STDOUT_FILENO;
 use model::Board;
 use model::FirstTicks;
@@ -27,7 +28,7 @@ fn second(b: u32) -> Job {
 
 fn board(window: u32, cores1: u32, cores2: u32) -> Board {
     Board {
-        window: window,
+        window,
         first: cores1,
         second: cores2,
     }
