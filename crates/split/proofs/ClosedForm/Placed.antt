@@ -34,7 +34,7 @@ module _ (w room all : ℕ) (r : Row) where
       go true = refl
       go false = refl
 
--- The rest of a job's work, rounded up, where it keeps h of its n ticks at home: it falls as h grows ..
+-- The rest of a job's work, rounded up, where it keeps h of its n ticks at home: it falls as h grows.
 rest-falls : (n f h k : ℕ) → 0 < n → h ≤ k → ceil (f * (n - k)) n ≤ ceil (f * (n - h)) n
 rest-falls n f h k some more =
     ceil-below (f * (n - k)) n (ceil (f * (n - h)) n) some

@@ -55,7 +55,7 @@ tight-fits c d w t cw wd tc h =
 part-eq : (c d t k u : ℕ) → c ≡ t + k → d * k ≤ c * u → c * d ≤ t * d + u * c
 part-eq c d t k u ck h = omega (arith, ap (λ (x : ℕ). d * x) ck)
 
--- .. and it does its whole work.
+-- Between its ends a job does its whole work.
 pub part-whole : (c d t : ℕ) → 0 < c → t ≤ c → c * d ≤ t * d + ceil (d * (c - t)) c * c
 part-whole c d t pos tc =
     part-eq c d t (c - t) (ceil (d * (c - t)) c) (omega arith) (ceil-least (d * (c - t)) c pos)

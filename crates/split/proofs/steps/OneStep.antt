@@ -22,7 +22,8 @@ keep-near w n f fits = go (leb f w) refl
     go true e = omega arith
     go false e = keep-most n f w fits (leb-false f w e)
 
--- .. and is at most what the far end has there, where it keeps at least what the far end does.
+-- The rest of a job's work, rounded up, where it keeps h of its n ticks at home: at most what the far end has there, if h is at least what the
+-- far end keeps.
 pub rest-give : (w n f h : ℕ) → 0 < n → n ≤ w → keepOf w n f ≤ h → ceil (f * (n - h)) n ≤ giveOf w n f
 unfolding keepOf giveOf
 rest-give w n f h some fits more = go (leb f w) refl (keep-near w n f fits) more
@@ -45,7 +46,6 @@ give-below w n f = go (leb f w) refl
     go true e = leb-true f w e
     go false e = omega arith
 
--- Where one step's rule takes a row: to its far end, or to what is left of the room.
 pub data Goes (w room all : ℕ) (r : Row) : Row → Type 0 where
   end : room + r .here ≤ all + keepOf w (r .near) (r .far)
       → Goes w room all r (put r (keepOf w (r .near) (r .far)) (giveOf w (r .near) (r .far)))
@@ -67,6 +67,7 @@ moved-goes w room all r among = go (leb room (all - r .here + keepOf w (r .near)
         let more : all - r .here + keepOf w (r .near) (r .far) < room = leb-false _ _ e in
         part rest (omega arith) (omega arith)
 
+-- A row that was moved is not moved again.
 pub moved-still : (w room s : ℕ) (r : Row) → movedOf w room s r .movable ≡ false
 unfolding movedOf
 moved-still w room s r = either (leb room (s - r .here + keepOf w (r .near) (r .far))) _ _ refl refl

@@ -30,6 +30,7 @@ rows-set n near far here there i h t l ln lh lt =
     (rw (getD-set-same near i 0 0 (omega arith), getD-set-same here i h 0 (omega arith), getD-set-same there i t 0 (omega arith)))
     (λ k ne. rw (getD-set-other near i k 0 0 ne, getD-set-other here i k h 0 ne, getD-set-other there i k t 0 ne))
 
+-- A row that can be moved is at home, so that its costs say all of it.
 home-row : (w : ℕ) (r : Row) → r .movable ≡ true → Movable w r → r ≡ bothRow true (r .near) (r .far)
 home-row w r m h = with-ticks (r .near) 0 true (h .whole) (h .bare) m
   where
