@@ -2,19 +2,24 @@
 --
 -- The three demands of every answer, in their own words, from the promises and nothing else.
 mod Demands
--- What the page of demands rests on. The size of every answer; the answer to a text, and what it says.
+-- What the page of demands rests on. The size of every answer.
 mod Size
+-- The answer to a text, and what it says.
 mod Answers
--- Every refusal of a text is listed with its cause, and every listed cause gives its refusal.
+-- Every refusal of a text is listed with its cause.
 mod Refusals
+-- Every listed cause gives its refusal.
 mod Causes
--- The lines of an answer say what was answered, since the records of an accepted plan are bytes, by its bounds.
+-- The lines of an answer say what was answered.
 mod Says
+-- The records of an accepted plan are bytes, and come back from their lines.
 mod ReadBack
+-- The bounds of an accepted plan, by which they are.
 mod Bounds
 --
--- What the functions' proofs cite: the lines of what was read and planned, and the count that the C entry gives.
+-- What the functions' proofs cite: the lines of what was read and planned.
 mod Lines
+-- The count that the C entry gives.
 mod Entry
 --
 -- Each promise allows one result alone. No promise needs it.

@@ -3,14 +3,17 @@
 --
 -- The lines of a text, one by one.
 pub mod Lines
--- The digits of a line and the bytes that they spell; what the record of those bytes says.
+-- The digits of a line, and the bytes that they spell.
 mod Digits
+-- What the record of those bytes says.
 mod Entries
--- The reader's loop over the lines of jobs, and the columns that it fills.
+-- The reader's loop over the lines of jobs.
 mod LineByLine
+-- The columns that it fills.
 mod Lent
--- Bytes that are stored one behind the other; the text of a plan, which is stored so.
+-- Bytes that are stored one behind the other.
 mod Stores
+-- The text of a plan, which is stored so.
 pub mod PlanText
 -- What is written is read back: what a text was written from. No promise needs it; clampfern's page of demands does.
 pub mod RoundTrip
