@@ -21,6 +21,7 @@ use mathlib.Core.Path.{_≡_, refl}
 use Prim.Native.Nat.{ℕ, zero, suc, _+_, _*_, _<_}
 use native.Mathlib.Omega.{arith}
 use lib.ListN.{getD}
+use Rattle.rows.proofs.Never.{never}
 use Rattle.model.specs.Limits.{windowMost, coresMost, jobsMost, costMost, slicesMost, textMost}
 use Rattle.model.specs.Board.{coresOf, roomOf}
 use Rattle.model.specs.Columns.{jobAt, jobsIn, costOn, jobFirst, jobSecond, jobBoth}
@@ -123,7 +124,7 @@ same-core-number-not same = omega arith
 
 -- Cores of different kinds are different cores, whatever their numbers.
 pub kinds-differ : {A : Type 0} {a b : ℕ} → (First ≡ Second) × (a ≡ b) → A
-kinds-differ e = let z : _≡_ {A = ℕ} 0 1 = cc in absurd (omega arith)
+kinds-differ e = never (cc)
 
 pub same-core-kind-not : SameCore early (row 0 Second 0 0 4) → ⊥
 same-core-kind-not same = kinds-differ same

@@ -1,5 +1,4 @@
 -- The first numbers of a column. One idea: they are those that were put there, whatever stands behind them. Assumes nothing.
---   upto-take      the first numbers of a column, by their places
 --   slices-take    the first slices of a column, by theirs
 --   ticks-back     the ticks of the shares of two columns are the first numbers of the columns
 --   shares-front   shares are read back from columns that have their ticks at the front
@@ -10,9 +9,9 @@ use mathlib.Core.List.{List, [], _∷_, _++_, map}
 use Prim.Native.Nat.{ℕ, zero, suc, _≤_}
 use native.Mathlib.Nat.{not-suc-le-zero, le-of-suc-le-suc}
 use lib.ListN.{length, take, drop}
-use Rattle.rows.specs.Upto.{upto, at}
+use Rattle.rows.specs.Upto.{at}
 use Rattle.rows.specs.Lists.{All}
-use Rattle.rows.proofs.Upto.{upto-length, upto-map}
+use Rattle.rows.proofs.Upto.{upto-length, upto-map, upto-take}
 use Rattle.model.specs.Board.{on}
 use Rattle.model.specs.Columns.{sharesIn}
 use Rattle.model.specs.Packed.{packOf, sliceIn, slicesIn}
@@ -22,11 +21,6 @@ use Rattle.model.specs.declared.Kind.{Kind}
 use Rattle.model.specs.declared.Kind.the-variants.{First, Second}
 use Rattle.model.specs.declared.Slice.{Slice}
 use Rattle.model.proofs.Packed.{packed-back}
-
-pub upto-take : (n : ℕ) (l : List ℕ) → n ≤ length l → upto n (λ i. at l i) ≡ take n l
-upto-take zero l h = refl
-upto-take (suc n) [] h = absurd (not-suc-le-zero h)
-upto-take (suc n) (x ∷ l) h = ap (λ (t : List ℕ). x ∷ t) (upto-take n l (le-of-suc-le-suc h))
 
 pub slices-take : (n : ℕ) (l : List ℕ) → n ≤ length l → slicesIn n l ≡ take n (map sliceIn l)
 slices-take zero l h = refl

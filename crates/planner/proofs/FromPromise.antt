@@ -12,6 +12,7 @@ use native.Mathlib.Omega.{arith}
 use lib.ListN.{length, take, drop, getD, length-map}
 use lib.Seq.{getD-take}
 use Rattle.rows.specs.Lists.{Pairs}
+use Rattle.rows.proofs.Never.{never}
 use Rattle.rows.proofs.Walk.{front-rows}
 use Rattle.rows.proofs.Lists.{pairs-at}
 use Rattle.model.specs.Empty.{noSlice}
@@ -28,7 +29,7 @@ use Rattle.model.proofs.Splits.{all-done-length}
 use Rattle.planner.specs.Plan.{Plan, Counts, planOf, sharesGiven, slicesGiven, countsIn, saysPlanned}
 use Rattle.planner.specs.Promise.{Promised}
 use Rattle.planner.specs.declared.Planned.the-variants.{Plan as Counted, Refused}
-use Rattle.planner.proofs.PlanLaws.{never, counts-are}
+use Rattle.planner.proofs.PlanLaws.{counts-are}
 
 pub record PlanThere (board : Board) (js : List Job) (ss ss′ : List Share) (ls ls′ : List Slice) (jobs slices : ℕ) : Type 0 where
   pub all : jobs ≡ length js

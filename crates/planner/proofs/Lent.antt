@@ -14,6 +14,7 @@ use lib.Dec.{ltb}
 use lib.ListN.{length, take, drop, replicate, length-map}
 use lib.Seq.{take-append-seam, take-length}
 use Rattle.rows.specs.Lists.{front}
+use Rattle.rows.proofs.Never.{never}
 use Rattle.model.specs.Columns.{costOn, jobsIn, sharesIn as sharesFrom}
 use Rattle.model.specs.Limits.{jobsMost}
 use Rattle.model.specs.Packed.{slicesIn as slicesFrom}
@@ -55,9 +56,6 @@ plan-read board js m k few e =
     (λ fits. let all : few ≡ length js = omega arith in rw (all, take-length js) (costs-back js fits)))
 
 -- ---- the demands
-never : {A : Type 0} → _≡_ {A = ℕ} 0 1 → A
-never z = absurd (omega arith)
-
 module _ (board : Board) (js : List Job) (ss ss′ : List Share) (ls ls′ : List Slice) where
   -- A refusal leaves both tables as they were, and a plan keeps demand 2.
   abbrev Stands : Planned → Type 0

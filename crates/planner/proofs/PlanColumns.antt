@@ -14,6 +14,7 @@ use lib.ListN.{length, take, drop, length-map}
 use lib.Seq.{length-take-le}
 use Rattle.rows.specs.Upto.{at}
 use Rattle.rows.specs.Lists.{front}
+use Rattle.rows.proofs.Never.{never}
 use Rattle.rows.proofs.Upto.{upto-length}
 use Rattle.model.specs.Columns.{sharesIn}
 use Rattle.model.specs.Limits.{jobsMost, slicesMost}
@@ -32,7 +33,6 @@ use Rattle.planner.specs.Packing.{Tabled}
 use Rattle.planner.specs.Plan.{Plan, planFrom, sharesGiven, slicesGiven, countsIn, tooShort, columnsOf}
 use Rattle.planner.specs.Promise.{Columned}
 use Rattle.planner.specs.declared.Planned.the-variants.{Plan as Counted, Refused}
-use Rattle.planner.proofs.PlanLaws.{never}
 use Rattle.planner.proofs.ColumnFronts.{ticks-back, put-same}
 
 abbrev pub ticksAfter : Kind → List ℕ → Answer Plan → List ℕ

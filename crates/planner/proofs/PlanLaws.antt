@@ -1,6 +1,5 @@
 -- The laws of plans: what an answer counts, what is known of the shares that are given, and that a plan made of them keeps demand 2.
 -- Assumes nothing.
---   never             what follows where an answer would be two things at once: anything
 --   counts-are        the counts of an accepted plan are those of the definition's
 --   shares-lawful     shares are given of lawful sets alone
 --   shares-accepted   and they are accepted by the split's promise
@@ -19,6 +18,7 @@ use native.Mathlib.Omega.{arith}
 use lib.Dec.{ltb}
 use lib.ListN.{length}
 use Rattle.rows.specs.Lists.{All}
+use Rattle.rows.proofs.Never.{never}
 use Rattle.model.specs.Board.{roomOf}
 use Rattle.model.specs.Refusal.{Answer, given, refused, andThen}
 use Rattle.model.specs.Split.{Ticks, AllDone, ticksOf}
@@ -45,9 +45,6 @@ use Rattle.planner.specs.Promise.{GoodPlan}
 use Rattle.planner.specs.declared.Planned.the-variants.{Plan as Counted}
 
 -- ---- what an answer counts
-pub never : {A : Type 0} → _≡_ {A = ℕ} 0 1 → A
-never z = absurd (omega arith)
-
 pub counts-are : (jobs slices : ℕ) (x : Answer Plan) → saysPlanned (Counted jobs slices) ≡ countsIn x
     → (jobs ≡ length (sharesGiven x)) × (slices ≡ length (slicesGiven x))
 counts-are jobs slices (given p) says =

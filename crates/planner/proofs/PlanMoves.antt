@@ -20,6 +20,7 @@ use lib.ListN.{length, take, set, replicate, length-append}
 use lib.Seq.{set-at}
 use Rattle.rows.specs.Lists.{All, sumOf}
 use Rattle.rows.specs.Numbered.{sumBelow}
+use Rattle.rows.proofs.Never.{never}
 use Rattle.rows.proofs.Lists.{sum-append}
 use Rattle.model.specs.Limits.{jobsMost, slicesMost}
 use Rattle.model.specs.Packed.{sliceIn}
@@ -31,10 +32,10 @@ use Rattle.model.specs.declared.Job.the-variants.{Both, OnlyFirst, OnlySecond}
 use Rattle.model.specs.declared.Slice.{Slice}
 use Rattle.model.proofs.Splits.{all-done-length}
 use Rattle.legal.specs.Lawful.{LegalJob}
-use Rattle.slices.specs.Moves.{movesOf}
-use Rattle.slices.specs.OncePerCore.{OncePerCore}
 use Rattle.split.specs.Shares.{sharesOf}
 use Rattle.split.proofs.Demands.{shares-numbered}
+use Rattle.slices.specs.Moves.{movesOf}
+use Rattle.slices.specs.OncePerCore.{OncePerCore}
 use Rattle.slices.specs.Table.{tableOf}
 use Rattle.slices.specs.declared.Moves.{Moves}
 use Rattle.slices.proofs.MovesAll.{moves-all}
@@ -44,7 +45,7 @@ use Rattle.planner.specs.ByValue.{Filled}
 use Rattle.planner.specs.Plan.{Plan, planFrom, fitted, planOf, sharesGiven, slicesGiven, countsIn}
 use Rattle.planner.specs.declared.Tables.{Tables}
 use Rattle.planner.proofs.ColumnFronts.{slices-take}
-use Rattle.planner.proofs.PlanLaws.{never, shares-lawful, shares-accepted, accepted-few, shares-fit, plan-shares, plan-kept}
+use Rattle.planner.proofs.PlanLaws.{shares-lawful, shares-accepted, accepted-few, shares-fit, plan-shares, plan-kept}
 
 -- ---- the list of moves
 module _ (rows : List Slice) where

@@ -11,6 +11,7 @@ use borrow.Author.Tests.{ltb-false}
 use lib.Dec.{ltb}
 use lib.ListN.{length}
 use Rattle.rows.specs.Lists.{All, front}
+use Rattle.rows.proofs.Never.{never}
 use Rattle.rows.proofs.Lists.{all-map}
 use Rattle.model.specs.Board.{coresOf}
 use Rattle.model.specs.Limits.{coresMost, jobsMost, slicesMost}
@@ -37,7 +38,7 @@ use Rattle.planner.specs.declared.Fitted.{Fitted}
 use Rattle.planner.specs.declared.Planned.{Planned}
 use Rattle.planner.specs.declared.Planned.the-variants.{Plan as Counted, Refused}
 use Rattle.planner.specs.declared.Tables.{Tables}
-use Rattle.planner.proofs.PlanLaws.{never, counts-are, shares-lawful, shares-fit, table-asks}
+use Rattle.planner.proofs.PlanLaws.{counts-are, shares-lawful, shares-fit, table-asks}
 use Rattle.planner.proofs.ColumnFronts.{shares-front, slices-front}
 use Rattle.planner.proofs.PlanColumns.{ticksAfter, slicesAfter}
 

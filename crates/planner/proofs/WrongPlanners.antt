@@ -21,6 +21,7 @@ use lib.Dec.{ltb}
 use lib.ListN.{length, take, getD, replicate}
 use lib.Seq.{getD-take, length-take-le}
 use Rattle.rows.specs.Lists.{All}
+use Rattle.rows.proofs.Never.{never}
 use Rattle.model.specs.Board.{sameKind, roomOf}
 use Rattle.model.specs.Empty.{noShare, noSlice}
 use Rattle.model.specs.Split.{Ticks, share, ticksOf, AllDone}
@@ -41,7 +42,6 @@ use Rattle.planner.specs.Promise.{Promised}
 use Rattle.planner.specs.declared.Planned.{Planned}
 use Rattle.planner.specs.declared.Planned.the-variants.{Plan as Counted, Refused}
 use Rattle.planner.proofs.Demands.{rows-there, rows-by-rules, job-whole, job-served, slice-inside, split-planned}
-use Rattle.planner.proofs.PlanLaws.{never}
 
 pub record Result : Type 0 where
   pub answer : Planned

@@ -1,11 +1,11 @@
 -- The laws of the list of a function's values (upto), and of a column that is filled from its start. Assumes nothing.
 use mathlib.Core.Path.{_≡_, refl, sym, ap, _∙_}
 use mathlib.Core.List.{List, [], _∷_, _++_, map}
-use Prim.Native.Nat.{ℕ, zero, suc, _+_, _<_}
+use Prim.Native.Nat.{ℕ, zero, suc, _+_, _≤_, _<_}
 use native.Mathlib.Nat.{le-of-suc-le-suc, not-suc-le-zero}
 use native.Mathlib.Numerals.{add-one}
 use native.Mathlib.Omega.{arith}
-use lib.ListN.{length, getD, set, drop, drop-of-length-le}
+use lib.ListN.{length, getD, set, take, drop, drop-of-length-le}
 use lib.Seq.{set-at, drop-cons, append-snoc}
 use Rattle.rows.specs.Lists.{sumOf}
 use Rattle.rows.specs.Upto.{upto, at}
@@ -43,8 +43,8 @@ module _ {A : Type 0} where
       rw (o 0 (λ z. omega arith), upto-set n (λ k. f (suc k)) (λ k. g (suc k)) i v (le-of-suc-le-suc l) e (λ k ne. o (suc k) (λ z. ne (omega arith))))
 
   -- A column that is filled from its start, one more.
-  pub fill : (f : ℕ → A) (l : List A) (i : ℕ) → i < length l → set (upto i f ++ drop i l) i (f i) ≡ upto (i + 1) f ++ drop (i + 1) l
-  fill f l i h =
+  pub upto-fill : (f : ℕ → A) (l : List A) (i : ℕ) → i < length l → set (upto i f ++ drop i l) i (f i) ≡ upto (i + 1) f ++ drop (i + 1) l
+  upto-fill f l i h =
       rw (drop-cons l i (f i) h, set-at (upto i f) (getD l i (f i)) (drop (suc i) l) (f i) i (upto-length i f), upto-more i f, add-one)
       (sym (append-snoc (upto i f) (f i) (drop (suc i) l)))
 
@@ -52,10 +52,16 @@ pub upto-map : {A B : Type 0} (g : A → B) (n : ℕ) (f : ℕ → A) → map g 
 upto-map g zero f = refl
 upto-map {B = B} g (suc n) f = ap (λ (t : List B). g (f 0) ∷ t) (upto-map g n (λ i. f (suc i)))
 
-pub front : (n : ℕ) (f : ℕ → ℕ) (l : List ℕ) (i : ℕ) → i < n → at (upto n f ++ l) i ≡ f i
-front zero f l i h = absurd (not-suc-le-zero h)
-front (suc n) f l zero h = refl
-front (suc n) f l (suc i) h = front n (λ k. f (suc k)) l i (le-of-suc-le-suc h)
+pub upto-front : (n : ℕ) (f : ℕ → ℕ) (l : List ℕ) (i : ℕ) → i < n → at (upto n f ++ l) i ≡ f i
+upto-front zero f l i h = absurd (not-suc-le-zero h)
+upto-front (suc n) f l zero h = refl
+upto-front (suc n) f l (suc i) h = upto-front n (λ k. f (suc k)) l i (le-of-suc-le-suc h)
+
+-- The first numbers of a column, by their places.
+pub upto-take : (n : ℕ) (l : List ℕ) → n ≤ length l → upto n (λ i. at l i) ≡ take n l
+upto-take zero l h = refl
+upto-take (suc n) [] h = absurd (not-suc-le-zero h)
+upto-take (suc n) (x ∷ l) h = ap (λ (t : List ℕ). x ∷ t) (upto-take n l (le-of-suc-le-suc h))
 
 -- A walk over the list: what is left at place i, and that nothing is left at n.
 module _ {A : Type 0} (n : ℕ) (f : ℕ → A) where

@@ -4,11 +4,11 @@ use mathlib.Core.Path.{_≡_, refl, sym, _∙_}
 use mathlib.Core.Bool.{Bool, true, false, true≢false, cond, and-eq-true-iff}
 use mathlib.Core.List.{List, [], _∷_, List·Memᴰ, List·Memᴰ·head, List·Memᴰ·tail}
 use mathlib.Core.Logic.{_⊎_, inl, inr}
-use Prim.Native.Nat.{ℕ, _<_}
-use native.Mathlib.Omega.{arith}
+use Prim.Native.Nat.{_<_}
 use borrow.Author.Tests.{eqb-true, ltb-true, eq-eqb, lt-ltb}
 use lib.Dec.{eqb, ltb}
 use Rattle.rows.specs.Lists.{All}
+use Rattle.rows.proofs.Never.{never}
 use Rattle.rows.proofs.Members.{all-member}
 use Rattle.model.specs.declared.Slice.{Slice}
 use Rattle.slices.specs.Moves.{isBefore, later, laterOf, beforeFrom, beforeOf}
@@ -16,7 +16,7 @@ use Rattle.slices.specs.declared.Before.{Before}
 use Rattle.slices.specs.declared.Before.the-variants.{Nothing, Row}
 
 row-nothing-not : {b : Slice} → Row b ≡ Nothing → ⊥
-row-nothing-not h = let z : _≡_ {A = ℕ} 0 1 = cc in omega arith
+row-nothing-not h = never (cc)
 
 module _ (s : Slice) where
   -- What is found after a row is the row itself or was found before it.

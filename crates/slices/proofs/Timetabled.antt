@@ -10,6 +10,7 @@ use native.Mathlib.Nat.{lt-of-mul-lt-mul-right, mul-le-mul-right}
 use native.Mathlib.Omega.{arith}
 use lib.ListN.{length, getD}
 use Rattle.rows.specs.Lists.{All, Pairs}
+use Rattle.rows.proofs.Never.{never}
 use Rattle.rows.proofs.Lists.{all-map, all-append, all-at, pairs-append, pairs-map, sum-append}
 use Rattle.model.specs.Board.{on, roomOf, sameKind}
 use Rattle.model.specs.Split.{Ticks, share, ticksOn}
@@ -32,7 +33,7 @@ abbrev pub rowsOn : Kind → ℕ → List Ticks → List Slice
 rowsOn k w ss = packed k w 0 (piecesOf k w ss)
 
 pub kinds-same-not : (s t : Slice) → s .kind ≡ First → t .kind ≡ Second → s .kind ≡ t .kind → ⊥
-kinds-same-not s t e f same = let z : _≡_ {A = ℕ} 0 1 = cc in omega arith
+kinds-same-not s t e f same = never (cc)
 
 -- The place of a tick on a core, in the kind's direction.
 abbrev place : Kind → ℕ → ℕ → ℕ

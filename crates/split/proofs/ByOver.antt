@@ -10,7 +10,7 @@ use lib.ListN.{drop}
 use lib.Seq.{drop-at}
 use Rattle.rows.specs.Lists.{All}
 use Rattle.rows.specs.Upto.{upto, at}
-use Rattle.rows.proofs.Upto.{upto-length, upto-at, upto-same, upto-map, front}
+use Rattle.rows.proofs.Upto.{upto-length, upto-at, upto-same, upto-map, upto-front}
 use Rattle.model.specs.Board.{on}
 use Rattle.model.specs.Refusal.{given}
 use Rattle.model.specs.Columns.{jobAt, jobsIn, sharesIn}
@@ -66,10 +66,10 @@ module _ {n : ℕ} {c1 c2 s1₀ s2₀ s1 s2 : List ℕ} {r : Sums} (gone : GoneH
 
   -- The ticks of the jobs at home in front of each column, and behind them what it had.
   first-at : (i : ℕ) → i < n → at s1 i ≡ homeAt First c1 c2 i .here
-  first-at i l = rw (gone .first) (front n (λ k. homeAt First c1 c2 k .here) (drop n s1₀) i l)
+  first-at i l = rw (gone .first) (upto-front n (λ k. homeAt First c1 c2 k .here) (drop n s1₀) i l)
 
   second-at : (i : ℕ) → i < n → at s2 i ≡ homeAt First c1 c2 i .there
-  second-at i l = rw (gone .second) (front n (λ k. homeAt First c1 c2 k .there) (drop n s2₀) i l)
+  second-at i l = rw (gone .second) (upto-front n (λ k. homeAt First c1 c2 k .there) (drop n s2₀) i l)
 
   rest-first : drop n s1 ≡ drop n s1₀
   rest-first =

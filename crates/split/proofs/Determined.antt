@@ -2,15 +2,14 @@
 --   split ↦ split-once
 --   starting_balance ↦ starting-balance-once
 -- Assumes nothing.
-use mathlib.Core.List.{List, [], _∷_, _++_}
+use mathlib.Core.List.{List, _++_}
 use mathlib.Core.Path.{_≡_, refl, sym, ap, _∙_}
-use Prim.Native.Nat.{ℕ, zero, suc, _-_, _≤_}
-use native.Mathlib.Nat.{le-of-suc-le-suc}
+use Prim.Native.Nat.{ℕ, _-_, _≤_}
 use native.Mathlib.Omega.{arith}
 use borrow.Author.Needs.{needs}
 use lib.ListN.{length, take, drop, replicate}
 use Rattle.rows.specs.Upto.{upto, at}
-use Rattle.rows.proofs.Upto.{upto-length, upto-map}
+use Rattle.rows.proofs.Upto.{upto-length, upto-map, upto-take}
 use Rattle.model.specs.Board.{on}
 use Rattle.model.specs.Columns.{sharesIn}
 use Rattle.model.specs.Terms.{ticks}
@@ -38,12 +37,6 @@ use Rattle.split.proofs.balance.starting_balance
 abbrev sharedOf : Answer (List Ticks) → Shared
 sharedOf = answerOf (λ ss. record { outcome = Shares (length ss); first = ticks First ss; second = ticks Second ss }) none
 
--- The front of a column, from the shares.
-front-back : (n : ℕ) (s : List ℕ) → n ≤ length s → upto n (λ i. at s i) ≡ take n s
-front-back zero s h = refl
-front-back (suc n) [] h = absurd (omega arith)
-front-back (suc n) (x ∷ s) h = ap (λ (t : List ℕ). x ∷ t) (front-back n s (le-of-suc-le-suc h))
-
 module _ (n : ℕ) (s1 s2 : List ℕ) where
   size : length (sharesIn n s1 s2) ≡ n
   size = upto-length n (λ i. share (at s1 i) (at s2 i))
@@ -55,8 +48,8 @@ module _ (n : ℕ) (s1 s2 : List ℕ) where
       (ap (λ (l : List ℕ). l ++ replicate (jobsMost - n) 0) (of-kind kind full) ∙ rows-back (on kind s1 s2) n jobsMost 0 full few rest .1)
     where
       of-kind : (k : Kind) → length (on k s1 s2) ≡ jobsMost → upto n (λ i. ticksOn k (share (at s1 i) (at s2 i))) ≡ take n (on k s1 s2)
-      of-kind First e = front-back n s1 (omega arith)
-      of-kind Second e = front-back n s2 (omega arith)
+      of-kind First e = upto-take n s1 (omega arith)
+      of-kind Second e = upto-take n s2 (omega arith)
 
 shared-back : (o : Outcome) (s1 s2 : List ℕ) → length s1 ≡ jobsMost → length s2 ≡ jobsMost → rowsOf o ≤ jobsMost
     → drop (rowsOf o) s1 ≡ replicate (jobsMost - rowsOf o) 0 → drop (rowsOf o) s2 ≡ replicate (jobsMost - rowsOf o) 0

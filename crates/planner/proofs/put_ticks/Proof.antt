@@ -6,8 +6,7 @@ use native.Mathlib.Omega.{arith}
 use borrow.Author.Needs.{needs}
 use lib.ListN.{length, drop, length-set}
 use Rattle.rows.specs.Upto.{upto, at}
-use Rattle.rows.proofs.Upto.{fill}
-use Rattle.planner.proofs.ColumnFronts.{upto-take}
+use Rattle.rows.proofs.Upto.{upto-fill, upto-take}
 use Rattle.planner.proofs.put_ticks.Statement.{statement}
 use Rattle.planner.proofs.put_ticks.Tie as tie
 
@@ -44,7 +43,7 @@ loop-again c =
     let x = c .before .loop in (
       omega arith,
       simp length-set (x .inv .1),
-      rw (x .inv .2) (fill (λ k. at (a .t1) k) (a .column .now) (x .i) (omega arith)),
+      rw (x .inv .2) (upto-fill (λ k. at (a .t1) k) (a .column .now) (x .i) (omega arith)),
     )
 
 same-length : tie.Need-same-length Inv-loop μ-loop

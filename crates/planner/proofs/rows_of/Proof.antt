@@ -7,7 +7,7 @@ use borrow.Author.Needs.{needs}
 use lib.ListN.{length, drop, length-map}
 use lib.Seq.{take-all}
 use Rattle.rows.specs.Upto.{at}
-use Rattle.rows.proofs.Upto.{fill}
+use Rattle.rows.proofs.Upto.{upto-fill}
 use Rattle.model.specs.Limits.{slicesMost}
 use Rattle.model.specs.Packed.{sliceIn, slicesIn}
 use Rattle.planner.proofs.ColumnFronts.{slices-take}
@@ -51,7 +51,7 @@ loop-again : tie.Need-loop-again Inv-loop μ-loop
 loop-again c =
     let a = c .before .before .before .before .args in
     let x = c .before .before .loop in
-    (omega arith, rw (c .slice-in2 .ensures, x .inv .1) (fill (λ k. sliceIn (at (a .t1) k)) _ (x .i) (omega arith)))
+    (omega arith, rw (c .slice-in2 .ensures, x .inv .1) (upto-fill (λ k. sliceIn (at (a .t1) k)) _ (x .i) (omega arith)))
 
 returns : tie.Need-returns Inv-loop μ-loop
 returns c =

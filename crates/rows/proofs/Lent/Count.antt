@@ -27,7 +27,7 @@ use ghost.Atoms.{Atoms}
 use types.Kit.{Given, Item, prop, runs, anyQ, atRet, Seq, Step, Sq, _$_, ! }
 use types.Run.{first, blocks, exec, Below, again, loops}
 use Rattle.rows.specs.Upto.{upto}
-use Rattle.rows.proofs.Upto.{upto-length, fill}
+use Rattle.rows.proofs.Upto.{upto-length, upto-fill}
 
 abbrev pub Upto : ℕ → Type 0
 Upto n = (i : ℕ) × (i ≤ n)
@@ -80,4 +80,4 @@ module _ {X : Type 0} (f : ℕ → X) (ys : List X) where
   made-length i h = length-front ys (upto i f) i (upto-length i f ∙ sym (length-take-le i ys h))
 
   pub made-next : (i : ℕ) (y : X) → i < length ys → y ≡ f i → set (made i) i y ≡ made (i + 1)
-  made-next i y h e = rw e (fill f ys i h)
+  made-next i y h e = rw e (upto-fill f ys i h)

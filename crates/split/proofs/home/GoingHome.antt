@@ -6,7 +6,7 @@ use native.Mathlib.Omega.{arith}
 use lib.ListN.{length, set}
 use Rattle.rows.specs.Lists.{sumOf}
 use Rattle.rows.specs.Upto.{at}
-use Rattle.rows.proofs.Upto.{upto-sum, upto-map, fill}
+use Rattle.rows.proofs.Upto.{upto-sum, upto-map, upto-fill}
 use Rattle.model.specs.Columns.{jobAt, jobsIn}
 use Rattle.model.specs.declared.Kind.the-variants.{First}
 use Rattle.model.specs.declared.Job.{Job}
@@ -39,7 +39,7 @@ module _ (i : ℕ) (c1 c2 : List ℕ) (h t : ℕ) (to : Ends) (e : to ≡ endOf 
   pub home-more : (s1₀ s2₀ s1 s2 : List ℕ) → i < length s1₀ → i < length s2₀ → GoneHome i c1 c2 s1₀ s2₀ s1 s2 (record { here = h; there = t })
       → GoneHome (i + 1) c1 c2 s1₀ s2₀ (set s1 i (to .keep)) (set s2 i (to .give)) (record { here = h + to .keep; there = t + to .give })
   home-more s1₀ s2₀ s1 s2 l1 l2 gone = record {
-    first = rw (e, gone .first) (fill (λ k. homeAt First c1 c2 k .here) s1₀ i l1);
-    second = rw (e, gone .second) (fill (λ k. homeAt First c1 c2 k .there) s2₀ i l2);
+    first = rw (e, gone .first) (upto-fill (λ k. homeAt First c1 c2 k .here) s1₀ i l1);
+    second = rw (e, gone .second) (upto-fill (λ k. homeAt First c1 c2 k .there) s2₀ i l2);
     sums = sums-more (gone .sums);
   }

@@ -5,7 +5,7 @@ use mathlib.Core.List.{List, _++_, map}
 use Prim.Native.Nat.{ℕ}
 use lib.Dec.{leb}
 use Rattle.rows.specs.Upto.{at}
-use Rattle.rows.proofs.Upto.{upto-at, upto-same, upto-map, front}
+use Rattle.rows.proofs.Upto.{upto-at, upto-same, upto-map, upto-front}
 use Rattle.model.specs.Board.{on}
 use Rattle.model.specs.Refusal.{given, refused}
 use Rattle.model.specs.Split.{Ticks}
@@ -23,7 +23,7 @@ use Rattle.split.proofs.steps.Bare.{bare-here, bare-there, shares-bare}
 pub marked-rows : (n : ℕ) (near far here there l : List ℕ) → near ≡ marksIn n far here ++ l → rowsIn n near far here there ≡ rowsIn n (marksIn n far here) far here there
 marked-rows n near far here there l e =
     upto-same n _ _
-    (λ i h. rw (e, front n (λ k. markOf (at far k) (at here k)) l i h, upto-at n (λ k. markOf (at far k) (at here k)) 0 i h))
+    (λ i h. rw (e, upto-front n (λ k. markOf (at far k) (at here k)) l i h, upto-at n (λ k. markOf (at far k) (at here k)) 0 i h))
 
 seen-shares : (k : Kind) (n : ℕ) (near far here there : List ℕ) → sharesIn n (on k here there) (on k there here) ≡ sharesSeen k (rowsIn n near far here there)
 seen-shares First n near far here there = sym (upto-map (shareOf First) n (rowIn near far here there))

@@ -6,7 +6,7 @@ use native.Mathlib.Omega.{arith}
 use borrow.Author.Needs.{needs}
 use lib.ListN.{length, drop, length-set}
 use Rattle.rows.specs.Upto.{at}
-use Rattle.rows.proofs.Upto.{fill}
+use Rattle.rows.proofs.Upto.{upto-fill}
 use Rattle.split.specs.Columns.{markOf, marksIn}
 use Rattle.split.proofs.steps.mark.Statement.{statement}
 use Rattle.split.proofs.steps.mark.Tie as tie
@@ -55,7 +55,7 @@ loop-again c =
     let x = l .loop in (
       omega arith,
       simp length-set (x .inv .1),
-      rw (c .mark-of .ensures, x .inv .2) (fill (λ k. markOf (at (a .far .now) k) (at (a .here .now) k)) (a .near .now) (x .i) (omega arith)),
+      rw (c .mark-of .ensures, x .inv .2) (upto-fill (λ k. markOf (at (a .far .now) k) (at (a .here .now) k)) (a .near .now) (x .i) (omega arith)),
     )
 
 same-length : tie.Need-same-length Inv-loop μ-loop

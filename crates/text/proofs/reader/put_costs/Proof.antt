@@ -6,7 +6,7 @@ use native.Mathlib.Omega.{arith}
 use borrow.Author.Needs.{needs}
 use lib.ListN.{length, drop, length-set}
 use Rattle.rows.specs.Upto.{upto, at}
-use Rattle.rows.proofs.Upto.{fill}
+use Rattle.rows.proofs.Upto.{upto-fill}
 use Rattle.text.proofs.reader.put_costs.Statement.{statement}
 use Rattle.text.proofs.reader.put_costs.Tie as tie
 
@@ -43,7 +43,7 @@ loop-again c =
     let a = c .before .before .before .args in (
       omega arith,
       simp length-set (x .inv .1),
-      rw (x .inv .2) (fill (λ k. at (a .costs .now) k) (a .column .now) (x .i) (omega arith)),
+      rw (x .inv .2) (upto-fill (λ k. at (a .costs .now) k) (a .column .now) (x .i) (omega arith)),
     )
 
 same-length : tie.Need-same-length Inv-loop μ-loop
