@@ -53,6 +53,7 @@ sizeOf f = 1 + sumOf (λ (w : ℕ). w) (f .widths)
 abbrev pub lineSize : Form → ℕ
 lineSize f = 2 * sizeOf f + 1
 
+-- Every record here is made with a number for each of its fields.
 abbrev pub spelled : (widths numbers : List ℕ) → List ℕ
 spelled [] xs = []
 spelled (w ∷ ws) [] = []
@@ -61,6 +62,7 @@ spelled (w ∷ ws) (x ∷ xs) = inBytes w x ++ spelled ws xs
 abbrev pub recordOf : Form → List ℕ → List ℕ
 recordOf f xs = f .tag ∷ spelled (f .widths) xs
 
+-- No bytes have no first one; but a record has one at the least, so that they are none.
 abbrev pub isA : Form → List ℕ → Bool
 isA f r = eqb (getD r 0 0) (f .tag) && eqb (length r) (sizeOf f)
 
@@ -68,5 +70,6 @@ abbrev pub fieldsIn : (widths bytes : List ℕ) → List ℕ
 fieldsIn [] bs = []
 fieldsIn (w ∷ ws) bs = numberIn (take w bs) ∷ fieldsIn ws (drop w bs)
 
+-- Asked of bytes that are such a record, and of a field that it has.
 abbrev pub field : Form → ℕ → List ℕ → ℕ
 field f i r = getD (fieldsIn (f .widths) (drop 1 r)) i 0
