@@ -13,8 +13,8 @@ pub mod Lowest
 pub mod Members
 -- Lists of a function's values, and a column that is filled from its start.
 pub mod Upto
--- Elements that are taken with their numbers, and sums over the numbers below n: they serve theorems that no promise needs, on all moves of a plan
--- and on the closed form of the split.
+-- Elements that are taken with their numbers, and sums over the numbers below n: they serve theorems that no promise needs, on all moves of a plan,
+-- on its cuts and on the closed form of the split.
 pub mod Numbered
 -- A walk over the first n of a list, and the table that it fills.
 pub mod Walk
