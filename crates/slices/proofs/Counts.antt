@@ -58,7 +58,7 @@ module _ (board : Board) (ss : List Ticks) (fits : Fits board ss) where
         packed-length Second (board .window) (fits .some) 0 (piecesOf Second (board .window) ss),
       )
 
-  kind-cuts : (k : Kind) → 1 ≤ coresOf board k → cuts (board .window) 0 (piecesOf k (board .window) ss) + 1 ≤ coresOf board k
+  pub kind-cuts : (k : Kind) → 1 ≤ coresOf board k → cuts (board .window) 0 (piecesOf k (board .window) ss) + 1 ≤ coresOf board k
   kind-cuts k some =
       cuts-few k (board .window) (fits .some) (Placed k (board .window) ss) (sized board ss fits k) (coresOf board k) 1 0
       (piecesOf k (board .window) ss) (pieces-placed k (board .window) ss) (omega arith) (omega arith) some

@@ -5,7 +5,7 @@ use mathlib.Core.Bool.{Bool, true, false, cond, _&&_}
 use Prim.Native.Nat.{ℕ, _+_, _-_, _*_, _/_, _%_, _≤_, _<_}
 use native.Mathlib.Nat.{div-add-mod', mod-lt, lt-of-mul-lt-mul-right, mul-le-mul-right}
 use native.Mathlib.Omega.{arith}
-use borrow.Author.Tests.{leb-true, leb-false}
+use borrow.Author.Tests.{le-leb, leb-true, leb-false}
 use lib.Dec.{leb, eqb}
 use lib.ListN.{length}
 use Rattle.rows.specs.Lists.{All, Pairs}
@@ -98,7 +98,7 @@ module _ (k : Kind) (w o : ℕ) (p : Piece) (wide : 1 ≤ w) where
       go true t = rw t
       go false t = rw t
 
--- A run passes one edge at most, and none where an edge stands at its end or behind it.
+-- A run passes one edge at most, and none where it is empty, or where an edge stands at its end or behind it.
 module _ (w o : ℕ) (p : Piece) (wide : 1 ≤ w) where
   pub edges-most : edges w o p ≤ 1
   edges-most = go (leb (o % w + p .ticks) w)
@@ -106,6 +106,9 @@ module _ (w o : ℕ) (p : Piece) (wide : 1 ≤ w) where
       go : (t : Bool) → cond t 0 1 ≤ 1
       go true = omega arith
       go false = omega arith
+
+  pub edges-empty : p .ticks ≡ 0 → edges w o p ≡ 0
+  edges-empty none = rw (le-leb (o % w + p .ticks) w (omega (arith, mod-lt o {m = w} wide)))
 
   pub edges-none : (c : ℕ) → c * w ≤ o + w → o + p .ticks ≤ c * w → edges w o p ≡ 0
   edges-none c near fits = go (leb (o % w + p .ticks) w) refl

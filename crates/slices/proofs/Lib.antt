@@ -16,6 +16,8 @@ mod Places
 pub mod Timetabled
 -- How many slices the table has at the most.
 pub mod Counts
+-- How many edges of cores the runs of jobs pass at the most, where a mover counts 2 and its own, and any other job its own twice.
+mod CutsMost
 -- ---- all moves of a plan are its slices less its jobs: no promise needs this theorem, and the planner's bound on moves cites it
 -- Counts over the rows of a table, job by job.
 mod Totals

@@ -41,6 +41,11 @@ pub at-append : (P : ℕ → Piece → Type 0) (o e : ℕ) (xs ys : List Piece) 
 at-append P o e [] ys eq h k = let q : e ≡ o = omega arith in rw q at k
 at-append P o e (x ∷ xs) ys eq h k = (h .0, at-append P (o + x .ticks) e xs ys (omega arith) (h .1) k)
 
+-- What two lists have, one behind the other, the second has from where it begins.
+pub at-behind : (P : ℕ → Piece → Type 0) (o e : ℕ) (xs ys : List Piece) → e ≡ o + total xs → AllAt P o (xs ++ ys) → AllAt P e ys
+at-behind P o e [] ys eq h = let q : o ≡ e = omega arith in rw q at h
+at-behind P o e (x ∷ xs) ys eq h = at-behind P (o + x .ticks) e xs ys (omega arith) (h .1)
+
 module _ (k : Kind) (w : ℕ) (wide : 1 ≤ w) where
   pub packed-ticks : (kind : Kind) (job o : ℕ) (ps : List Piece)
       → ticksIn kind job (packed k w o ps) ≡ cond (sameKind kind k) (ticksFor job ps) 0

@@ -9,11 +9,14 @@ use borrow.Author.Tests.{ltb-false, eq-eqb, ne-eqb}
 use lib.Dec.{ltb, eqb}
 use lib.ListN.{length, getD, take, length-append}
 use Rattle.rows.specs.Lists.{sumOf, countOf}
+use Rattle.rows.specs.Numbered.{sumBelow}
 use Rattle.rows.proofs.Lists.{sum-append}
+use Rattle.rows.proofs.Numbered.{below-first}
 use Rattle.model.specs.Movers.{isMover, isEven, movers}
 use Rattle.model.specs.Split.{Ticks, share, ticksOn, ticksOf}
 use Rattle.model.specs.declared.Kind.{Kind}
 use Rattle.model.specs.declared.Kind.the-variants.{First, Second}
+use Rattle.model.proofs.Movers.{ticksOfMovers}
 use Rattle.slices.specs.Table.{Piece, evenMover, otherMover, alone, chosen, piecesOf}
 use Rattle.slices.proofs.Packs.{AllAt, total, ticksFor}
 
@@ -39,6 +42,25 @@ module _ (test : Ticks → Bool) (k : Kind) where
           ≡ cond t (f (record { job = i; ticks = ticksOn k s })) 0 + sumOf f (chosen test k (i + 1) ss)
       go true = refl
       go false = omega arith
+
+  -- A sum over the pieces is one over the numbers of the jobs.
+  pub chosen-below : (f : Piece → ℕ) (ss : List Ticks) → sumOf f (chosen test k 0 ss)
+      ≡ sumBelow (length ss) (λ (j : ℕ). cond (test (shareAt ss j)) (f (record { job = j; ticks = ticksOn k (shareAt ss j) })) 0)
+  unfolding chosen
+  chosen-below f ss = go 0 ss _ (λ n j e. let q : j ≡ n = omega arith in rw q)
+    where
+      go : (i : ℕ) (ss : List Ticks) (g : ℕ → ℕ)
+          → ((n j : ℕ) → j ≡ i + n → cond (test (shareAt ss n)) (f (record { job = j; ticks = ticksOn k (shareAt ss n) })) 0 ≡ g n)
+          → sumOf f (chosen test k i ss) ≡ sumBelow (length ss) g
+      go i [] g h = refl
+      go i (s ∷ ss) g h =
+          omega (
+            arith,
+            chosen-sum f i s ss,
+            below-first g (length ss),
+            h 0 i (omega arith),
+            go (i + 1) ss (λ n. g (suc n)) (λ n j e. h (suc n) j (omega arith)),
+          )
 
   pub chosen-total : (i : ℕ) (ss : List Ticks) → total (chosen test k i ss) ≡ sumOf (part test k) ss
   unfolding chosen
@@ -90,18 +112,38 @@ module _ (test : Ticks → Bool) (k : Kind) where
       go false t more = rw t (more o (rw t (omega arith)))
 
 -- ---- the three tests together
-parts-whole : (k : Kind) (w : ℕ) (s : Ticks)
-    → part (evenMover w) k s + (part (otherMover w) k s + part (alone k) k s) ≡ ticksOn k s
-parts-whole k w s = go (isMover s) (isEven w s) (ltb 0 (ticksOn k s)) refl
+-- A mover is even or it is not: what the two tests count is what a mover counts.
+movers-whole : (w : ℕ) (s : Ticks) (n : ℕ) → cond (evenMover w s) n 0 + cond (otherMover w s) n 0 ≡ cond (isMover s) n 0
+movers-whole w s n = go (isMover s) (isEven w s)
   where
-    go : (m e t : Bool) → ltb 0 (ticksOn k s) ≡ t
-        → cond (m && e) (ticksOn k s) 0 + (cond (m && not e) (ticksOn k s) 0 + cond (t && not m) (ticksOn k s) 0) ≡ ticksOn k s
-    go true true true t = omega arith
-    go true true false t = omega arith
-    go true false true t = omega arith
-    go true false false t = omega arith
-    go false e true t = omega arith
-    go false e false t = omega (arith, ltb-false)
+    go : (m e : Bool) → cond (m && e) n 0 + cond (m && not e) n 0 ≡ cond m n 0
+    go true true = omega arith
+    go true false = omega arith
+    go false e = omega arith
+
+-- A share above 0 on a kind is a mover's or is on this kind only: the two tests count any number that is 0 where the share is.
+pub alone-whole : (k : Kind) (s : Ticks) (n : ℕ) → (ticksOn k s ≡ 0 → n ≡ 0) → cond (isMover s) n 0 + cond (alone k s) n 0 ≡ n
+alone-whole k s n none = go (isMover s) (ltb 0 (ticksOn k s)) refl
+  where
+    go : (m t : Bool) → ltb 0 (ticksOn k s) ≡ t → cond m n 0 + cond (t && not m) n 0 ≡ n
+    go true true t = omega arith
+    go true false t = omega arith
+    go false true t = omega arith
+    go false false t = omega (arith, none (omega (arith, ltb-false)))
+
+pub tests-whole : (k : Kind) (w : ℕ) (s : Ticks) (n : ℕ) → (ticksOn k s ≡ 0 → n ≡ 0)
+    → cond (evenMover w s) n 0 + (cond (otherMover w s) n 0 + cond (alone k s) n 0) ≡ n
+tests-whole k w s n none = omega (arith, movers-whole w s n, alone-whole k s n none)
+
+-- The same of the ticks of all shares.
+pub movers-parts : (k : Kind) (w : ℕ) (ss : List Ticks)
+    → sumOf (part (evenMover w) k) ss + sumOf (part (otherMover w) k) ss ≡ ticksOfMovers k ss
+movers-parts k w [] = refl
+movers-parts k w (s ∷ ss) = omega (arith, movers-whole w s (ticksOn k s), movers-parts k w ss)
+
+pub alone-parts : (k : Kind) (ss : List Ticks) → ticksOfMovers k ss + sumOf (part (alone k) k) ss ≡ ticksOf k ss
+alone-parts k [] = refl
+alone-parts k (s ∷ ss) = omega (arith, alone-whole k s (ticksOn k s) (λ none. none), alone-parts k ss)
 
 module _ (k : Kind) (w : ℕ) (ss : List Ticks) where
   pub pieces-for : (job : ℕ) → job < length ss → ticksFor job (piecesOf k w ss) ≡ ticksOn k (shareAt ss job)
@@ -114,17 +156,12 @@ module _ (k : Kind) (w : ℕ) (ss : List Ticks) where
         chosen-for (evenMover w) k job 0 job ss at h,
         chosen-for (otherMover w) k job 0 job ss at h,
         chosen-for (alone k) k job 0 job ss at h,
-        parts-whole k w (shareAt ss job),
+        tests-whole k w (shareAt ss job) (ticksOn k (shareAt ss job)) (λ none. none),
       ))
 
   pub pieces-total : total (piecesOf k w ss) ≡ ticksOf k ss
   unfolding piecesOf
-  pieces-total = simp (sum-append, chosen-total) (sums ss)
-    where
-      sums : (ss : List Ticks) → sumOf (part (evenMover w) k) ss + (sumOf (part (otherMover w) k) ss + sumOf (part (alone k) k) ss)
-          ≡ ticksOf k ss
-      sums [] = refl
-      sums (s ∷ ss) = omega (arith, parts-whole k w s, sums ss)
+  pieces-total = simp (sum-append, chosen-total) (omega (arith, movers-parts k w ss, alone-parts k ss))
 
   pieces-count : length (piecesOf k w ss) ≡ countOf (evenMover w) ss + (countOf (otherMover w) ss + countOf (alone k) ss)
   unfolding piecesOf

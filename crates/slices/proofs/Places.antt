@@ -14,10 +14,11 @@ use Rattle.model.specs.Movers.{isMover, isEven, unevens}
 use Rattle.model.specs.Split.{Ticks, share, ticksOn}
 use Rattle.model.specs.declared.Kind.{Kind}
 use Rattle.model.specs.declared.Kind.the-variants.{First, Second}
-use Rattle.model.proofs.Movers.{mover-some}
+use Rattle.model.proofs.Movers.{mover-some, ticksOfMovers}
 use Rattle.slices.specs.Table.{Piece, evenMover, otherMover, alone, chosen, piecesOf}
-use Rattle.slices.proofs.Packs.{AllAt, at-append}
-use Rattle.slices.proofs.Pieces.{part, shareAt, chosen-total, chosen-at}
+use Rattle.slices.proofs.Cuts.{edges}
+use Rattle.slices.proofs.Packs.{AllAt, total, at-append, at-behind}
+use Rattle.slices.proofs.Pieces.{part, shareAt, chosen-total, chosen-at, movers-parts}
 
 -- Where the piece of job j begins: behind the shares that stand before its own.
 unfoldable pub offset : Kind → ℕ → List Ticks → ℕ → ℕ
@@ -26,6 +27,16 @@ offset k w ss j =
     (cond (isEven w (shareAt ss j)) (sumOf (part (evenMover w) k) (take j ss))
     (sumOf (part (evenMover w) k) ss + sumOf (part (otherMover w) k) (take j ss)))
     (sumOf (part (evenMover w) k) ss + sumOf (part (otherMover w) k) ss + sumOf (part (alone k) k) (take j ss))
+
+-- The piece of a job on a kind, the edges of cores that its run passes there, and those that it passes on both kinds.
+abbrev pub pieceAt : Kind → List Ticks → ℕ → Piece
+pieceAt k ss j = record { job = j; ticks = ticksOn k (shareAt ss j) }
+
+abbrev pub cutAt : Kind → ℕ → List Ticks → ℕ → ℕ
+cutAt k w ss j = edges w (offset k w ss j) (pieceAt k ss j)
+
+abbrev pub cutsOf : ℕ → List Ticks → ℕ → ℕ
+cutsOf w ss j = cutAt First w ss j + cutAt Second w ss j
 
 -- A piece, at a position, of a job of the set: it has all ticks of the job on the kind, and begins where the job's piece begins.
 pub record Placed (k : Kind) (w : ℕ) (ss : List Ticks) (o : ℕ) (p : Piece) : Type 0 where
@@ -82,6 +93,16 @@ pieces-placed k w ss =
     lone n a j l ej ea t =
         let both = and-eq-true-iff (ltb 0 (ticksOn k (shareAt ss n))) (not (isMover (shareAt ss n))) .0 t in
         placed n a j l ej (ltb-true 0 (ticksOn k (shareAt ss n)) (both .0)) (rw (not-true (isMover (shareAt ss n)) (both .1)) ea)
+
+-- The jobs that are on this kind only stand behind the movers.
+pub alone-placed : (k : Kind) (w : ℕ) (ss : List Ticks) → AllAt (Placed k w ss) (ticksOfMovers k ss) (chosen (alone k) k 0 ss)
+unfolding piecesOf
+alone-placed k w ss =
+    let evens : List Piece = chosen (evenMover w) k 0 ss in
+    let others : List Piece = chosen (otherMover w) k 0 ss in
+    at-behind (Placed k w ss) (total evens) (ticksOfMovers k ss) others (chosen (alone k) k 0 ss)
+    (omega (arith, movers-parts k w ss, chosen-total (evenMover w) k 0 ss, chosen-total (otherMover w) k 0 ss))
+    (at-behind (Placed k w ss) 0 (total evens) evens (others ++ chosen (alone k) k 0 ss) (omega arith) (pieces-placed k w ss))
 
 -- ---- the two kinds together
 evens-whole : (w : ℕ) (ss : List Ticks)
