@@ -1,51 +1,36 @@
--- The moves of a planned set: the promise of `moves`, and how many moves the jobs of a plan have together. That is the slices less the jobs, and
--- so at most 2·(m1 + m2) − 2: no job of an accepted set is without a share, so that each has a slice that is no move, and every other one is one.
---   below-length, below-fill, below-sum   the list of the moves of the jobs below n
---   moves-promised   the promise of `moves`
---   outers, inners   the outer moves of all jobs together, and the inner ones
---   moves-slices     all moves and the jobs are the slices
---   moves-few        at most 2·(m1 + m2) − 2 moves
---   plan-roomy       a plan is never refused for space where the tables are long enough for every set
+-- The moves of a planned set: the promise of `moves`.
+--   below-length, below-fill   the list of the moves of the jobs below n
+--   moves-promised             the promise of `moves`
+--   plan-roomy                 a plan is never refused for space where the tables are long enough for every set
 -- Assumes nothing.
 use mathlib.Core.Path.{_≡_, refl, sym, ap, _∙_}
-use mathlib.Core.Bool.{Bool, true, false}
-use mathlib.Core.List.{List, [], _∷_, _++_, map, append-assoc}
-use Prim.Native.Nat.{ℕ, zero, suc, _+_, _-_, _*_, _≤_, _<_}
-use native.Mathlib.Nat.{mul-le-mul}
+use mathlib.Core.List.{List, _++_, map, append-assoc}
+use Prim.Native.Nat.{ℕ, zero, suc, _+_, _-_, _≤_, _<_}
 use native.Mathlib.Numerals.{add-one}
 use native.Mathlib.Omega.{arith}
-use borrow.Author.Tests.{ltb-true, ltb-false, le-ltb}
-use lib.Dec.{ltb}
+use borrow.Author.Tests.{le-ltb}
 use lib.ListN.{length, take, set, replicate, length-append}
 use lib.Seq.{set-at}
-use Rattle.rows.specs.Lists.{All, sumOf}
-use Rattle.rows.specs.Numbered.{sumBelow}
 use Rattle.rows.proofs.Never.{never}
-use Rattle.rows.proofs.Lists.{sum-append}
 use Rattle.model.specs.Limits.{jobsMost, slicesMost}
 use Rattle.model.specs.Packed.{sliceIn}
 use Rattle.model.specs.Refusal.{Answer, given, refused, andThen}
-use Rattle.model.specs.Split.{Ticks, AllDone}
+use Rattle.model.specs.Split.{Ticks}
 use Rattle.model.specs.declared.Board.{Board}
 use Rattle.model.specs.declared.Job.{Job}
-use Rattle.model.specs.declared.Job.the-variants.{Both, OnlyFirst, OnlySecond}
 use Rattle.model.specs.declared.Slice.{Slice}
 use Rattle.model.proofs.Splits.{all-done-length}
-use Rattle.legal.specs.Lawful.{LegalJob}
 use Rattle.split.specs.Shares.{sharesOf}
 use Rattle.split.proofs.Demands.{shares-numbered}
 use Rattle.slices.specs.Moves.{movesOf}
-use Rattle.slices.specs.OncePerCore.{OncePerCore}
 use Rattle.slices.specs.Table.{tableOf}
 use Rattle.slices.specs.declared.Moves.{Moves}
-use Rattle.slices.proofs.MovesAll.{moves-all}
-use Rattle.slices.proofs.OncePerCore.{table-once}
 use Rattle.planner.specs.PlanMoves.{movesBelow, movesIn, noMoves, roomyPlan, MovesPromised}
 use Rattle.planner.specs.ByValue.{Filled}
-use Rattle.planner.specs.Plan.{Plan, planFrom, fitted, planOf, sharesGiven, slicesGiven, countsIn}
+use Rattle.planner.specs.Plan.{Plan, planFrom, fitted, sharesGiven, slicesGiven, countsIn}
 use Rattle.planner.specs.declared.Tables.{Tables}
 use Rattle.planner.proofs.ColumnFronts.{slices-take}
-use Rattle.planner.proofs.PlanLaws.{shares-lawful, shares-accepted, accepted-few, shares-fit, plan-shares, plan-kept}
+use Rattle.planner.proofs.PlanLaws.{shares-lawful, shares-accepted, accepted-few}
 
 -- ---- the list of moves
 module _ (rows : List Slice) where
@@ -61,11 +46,6 @@ module _ (rows : List Slice) where
   below-fill m n h =
       let e : m - n ≡ suc (m - (n + 1)) = omega arith in
       rw (e, set-at (movesBelow rows n) noMoves (replicate (m - (n + 1)) noMoves) (movesOf rows n) n (below-length n), add-one, append-assoc)
-
-  below-sum : (f : Moves → ℕ) (n : ℕ) → sumOf f (movesBelow rows n) ≡ sumBelow n (λ (j : ℕ). f (movesOf rows j))
-  unfolding movesBelow
-  below-sum f zero = refl
-  below-sum f (suc n) = omega (arith, sum-append f (movesBelow rows n) (movesOf rows n ∷ []), below-sum f n)
 
 -- ---- the code's tables
 moves-in : (x : Answer Plan) → movesIn x ≡ movesBelow (slicesGiven x) (length (sharesGiven x))
@@ -90,58 +70,6 @@ moves-promised board n ks js t rows moves same f there rows-are e =
       says = f .says ∙ ap countsIn plan;
       moves = e ∙ rw (all, count) (ap (λ (y : Answer Plan). movesIn y ++ replicate (jobsMost - length (movesIn y)) noMoves) plan);
     }
-
--- ---- the moves of a plan
-abbrev pub outers : List Moves → ℕ
-outers ms = sumOf (λ (m : Moves). m .outer) ms
-
-abbrev pub inners : List Moves → ℕ
-inners ms = sumOf (λ (m : Moves). m .inner) ms
-
--- A job whose work is done has a share, since its cost is at least 1.
-both-some : (a b c d : ℕ) → 0 < c → 0 < d → 1 * c * d ≤ a * d + b * c → 0 < a + b
-both-some a b c d hc hd work = go (ltb 0 (a + b)) refl
-  where
-    go : (t : Bool) → ltb 0 (a + b) ≡ t → 0 < a + b
-    go true t = ltb-true 0 (a + b) t
-    go false t =
-        let none : a + b ≤ 0 = ltb-false 0 (a + b) t in
-        let za : a ≡ 0 = omega arith in
-        let zb : b ≡ 0 = omega arith in
-        absurd (omega (arith, ap (λ (x : ℕ). x * d) za, ap (λ (x : ℕ). x * c) zb, mul-le-mul {n₁ = 1} {m₁ = 1} {n₂ = c} {m₂ = d} hc hd))
-
-done-some : (w : ℕ) (js : List Job) (ss : List Ticks) → All (LegalJob w) js → AllDone w 1 js ss → All (λ (s : Ticks). 0 < s .first + s .second) ss
-done-some w [] [] l d = tt
-done-some w [] (s ∷ ss) l d = absurd d
-done-some w (j ∷ js) [] l d = absurd d
-done-some w (Both c1 c2 ∷ js) (s ∷ ss) l d =
-    (both-some (s .first) (s .second) (c1 .0) (c2 .0) (l .0 .0) (l .0 .1) (d .0 .0), done-some w js ss (l .1) (d .1))
-done-some w (OnlyFirst c1 ∷ js) (s ∷ ss) l d = (omega arith, done-some w js ss (l .1) (d .1))
-done-some w (OnlySecond c2 ∷ js) (s ∷ ss) l d = (omega arith, done-some w js ss (l .1) (d .1))
-
-module _ (board : Board) (n : ℕ) (js : List Job) (m k : ℕ) (p : Plan) (is : planOf board n js m k ≡ given p) where
-  plan-once-a-core : OncePerCore (length (p .shares)) (p .slices)
-  plan-once-a-core =
-      let made = plan-shares board n js m k is in
-      let done = shares-accepted board n js (made .0) .whole .done in
-      rw (made .1)
-      (table-once board (p .shares) (shares-fit board n js (made .0))
-      (done-some (board .window) js (p .shares) (shares-lawful board n js (made .0) .jobs) done))
-
-  pub moves-slices : outers (movesIn (planOf board n js m k)) + inners (movesIn (planOf board n js m k)) + length (p .shares) ≡ length (p .slices)
-  moves-slices =
-      rw is
-      (omega (
-        arith,
-        below-sum (p .slices) (λ (m : Moves). m .outer) (length (p .shares)),
-        below-sum (p .slices) (λ (m : Moves). m .inner) (length (p .shares)),
-        moves-all (length (p .shares)) (p .slices) plan-once-a-core,
-      ))
-
-  pub moves-few : outers (movesIn (planOf board n js m k)) + inners (movesIn (planOf board n js m k)) + 2 ≤ 2 * (board .first + board .second)
-  moves-few =
-      let kept = plan-kept board n js m k is in
-      omega (arith, moves-slices, kept .few, all-done-length (board .window) 1 js (p .shares) (kept .whole .done))
 
 -- A plan for tables that are long enough for every set is refused by 6 at most, and so never by 7.
 pub plan-roomy : (board : Board) (n : ℕ) (js : List Job) → length js ≤ jobsMost → (number place : ℕ)

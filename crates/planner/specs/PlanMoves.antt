@@ -14,7 +14,7 @@ use Rattle.model.specs.Refusal.{Answer, given, refused}
 use Rattle.model.specs.declared.Board.{Board}
 use Rattle.model.specs.declared.Job.{Job}
 use Rattle.model.specs.declared.Slice.{Slice}
-use Rattle.slices.specs.Moves.{movesOf}
+use Rattle.slices.specs.Moves.{moves, movesOf}
 use Rattle.slices.specs.declared.Moves.{Moves}
 use Rattle.planner.specs.Plan.{Plan, planOf, countsIn, saysPlanned}
 use Rattle.planner.specs.declared.PlannedMoves.{PlannedMoves}
@@ -28,7 +28,7 @@ movesIn (given p) = movesBelow (p .slices) (length (p .shares))
 movesIn (refused number place) = []
 
 abbrev pub noMoves : Moves
-noMoves = record { outer = 0; inner = 0 }
+noMoves = moves 0 0
 
 abbrev pub roomyPlan : Board → ℕ → List Job → Answer Plan
 roomyPlan board n js = planOf board n js jobsMost slicesMost

@@ -9,8 +9,6 @@ pub mod Lists
 pub mod Tells
 -- The first element that a test holds of: its laws, and the walk that looks for it.
 pub mod Lowest
--- The same of the members of a list.
-pub mod Members
 -- Lists of a function's values, and a column that is filled from its start.
 pub mod Upto
 -- Elements that are taken with their numbers, and sums over the numbers below n: they serve theorems that no promise needs, on all moves of a plan,

@@ -1,21 +1,18 @@
--- Both sides of the lines that this crate's theorems draw, as model/proofs/BothSides.antt has them for the model: examples exactly at a limit,
--- and such as are wrong by one there and nowhere else. The lines that are held, in this order:
---   Fits          no uneven mover, one, and two; a job's two shares within the window; each kind within its room; a window at all
---   OncePerCore   a length, a job of the set, a slice for each job, one place at a time, no core twice
+-- Both sides of the lines that this crate's theorems and definitions draw, as model/proofs/BothSides.antt has them for the model: examples exactly
+-- at a limit, and such as are wrong by one there and nowhere else. The lines that are held, in this order:
+--   Fits      no uneven mover, one, and two; a job's two shares within the window; each kind within its room; a window at all
+--   movesOf   no slice, one, two and three; a change of kind and one of core, inside the window and at its end; slices by start
 -- Assumes nothing.
 use mathlib.Core.List.{List, [], _∷_}
-use Prim.Native.Nat.{ℕ, zero, suc, _<_}
+use mathlib.Core.Path.{_≡_, refl}
 use native.Mathlib.Omega.{arith}
-use lib.Dec.{eqb}
-use Rattle.rows.specs.Lists.{countOf}
 use Rattle.model.specs.Board.{roomOf}
 use Rattle.model.specs.Split.{Ticks, share}
 use Rattle.model.specs.declared.Kind.{Kind}
 use Rattle.model.specs.declared.Kind.the-variants.{First, Second}
-use Rattle.model.specs.declared.Slice.{Slice}
-use Rattle.model.proofs.BothSides.{board, row, kinds-differ, runs-five, runs-four}
+use Rattle.model.proofs.BothSides.{board, row}
 use Rattle.slices.specs.Fits.{Fits}
-use Rattle.slices.specs.OncePerCore.{OncePerCore}
+use Rattle.slices.specs.Moves.{laterIf, latest, moves, movesOf}
 
 -- ==== Fits, on a board with one core of each kind
 abbrev On : List Ticks → Type 0
@@ -50,36 +47,28 @@ fits-second-not f = omega (arith, f .within Second)
 pub fits-no-window-not : Fits (record { window = 0; first = 1; second = 1 }) [] → ⊥
 fits-no-window-not f = omega arith
 
--- ==== OncePerCore
-two-jobs : (P : ℕ → Type 0) → P 0 → P 1 → (job : ℕ) → job < 2 → P job
-two-jobs P a b zero l = a
-two-jobs P a b (suc zero) l = b
-two-jobs P a b (suc (suc job)) l = absurd (omega arith)
+-- ==== movesOf, of job 0
+pub moves-none : movesOf (row 1 First 0 0 4 ∷ row 1 Second 0 4 4 ∷ []) 0 ≡ moves 0 0
+unfolding laterIf latest
+moves-none = refl
 
-abbrev rows : List Slice
-rows = row 0 First 0 0 4 ∷ row 1 First 0 4 6 ∷ row 0 Second 0 4 6 ∷ []
+pub moves-one : movesOf (row 0 First 0 4 4 ∷ []) 0 ≡ moves 0 0
+unfolding laterIf latest
+moves-one = refl
 
-pub once-per-core : OncePerCore 2 rows
-once-per-core =
-    record {
-      some = omega arith;
-      job = omega arith;
-      each = λ job l. two-jobs (λ (j : ℕ). 0 < countOf (λ (s : Slice). eqb (s .job) j) rows) (omega arith) (omega arith) job (omega arith);
-      places = search arith;
-      cores = ((search arith, (λ same. kinds-differ, tt)), ((search arith, tt), (tt, tt)));
-    }
+pub moves-kinds : movesOf (row 0 First 0 0 4 ∷ row 0 Second 0 4 6 ∷ []) 0 ≡ moves 2 0
+unfolding laterIf latest
+moves-kinds = refl
 
-pub once-empty-not : OncePerCore 1 (row 0 First 0 4 0 ∷ []) → ⊥
-once-empty-not o = omega arith
+pub moves-cores : movesOf (row 0 First 0 6 4 ∷ row 0 First 1 0 2 ∷ []) 0 ≡ moves 0 2
+unfolding laterIf latest
+moves-cores = refl
 
-pub once-no-job-not : OncePerCore 1 (row 0 First 0 0 4 ∷ row 1 First 0 4 6 ∷ []) → ⊥
-once-no-job-not o = omega arith
+pub moves-three : movesOf (row 0 First 0 4 4 ∷ row 0 Second 0 0 4 ∷ row 0 Second 1 8 2 ∷ []) 0 ≡ moves 2 1
+unfolding laterIf latest
+moves-three = refl
 
-pub once-no-slice-not : OncePerCore 2 (row 0 First 0 0 4 ∷ []) → ⊥
-once-no-slice-not o = omega (arith, o .each 1 (omega arith))
-
-pub once-two-places-not : OncePerCore 1 (row 0 First 0 0 5 ∷ row 0 First 1 4 4 ∷ []) → ⊥
-once-two-places-not o = search (o .places .0 .0, runs-five, runs-four, arith)
-
-pub once-back-not : OncePerCore 1 (row 0 First 0 0 4 ∷ row 0 First 0 4 4 ∷ []) → ⊥
-once-back-not o = search (o .cores .0 .0, arith)
+-- No table has four slices of a job; with three every order goes round alike.
+pub moves-by-start : movesOf (row 0 First 0 0 2 ∷ row 0 First 1 4 2 ∷ row 0 Second 0 2 2 ∷ row 0 Second 1 6 2 ∷ []) 0 ≡ moves 4 0
+unfolding laterIf latest
+moves-by-start = refl

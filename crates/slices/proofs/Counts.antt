@@ -1,20 +1,16 @@
--- How many slices the table has, and that it has one of each job with a share. One idea: a slice more than pieces is a run that passes an
--- inner edge of the kind's cores, and a piece more than jobs is a mover. Assumes nothing.
+-- How many slices the table has. One idea: a slice more than pieces is a run that passes an inner edge of the kind's cores, and a piece more than
+-- jobs is a mover. Assumes nothing.
 use mathlib.Core.Path.{_≡_}
-use mathlib.Core.Bool.{Bool, true, false, cond}
-use mathlib.Core.List.{List, [], _∷_}
-use Prim.Native.Nat.{ℕ, _+_, _*_, _≤_, _<_}
+use mathlib.Core.List.{List}
+use Prim.Native.Nat.{_+_, _*_, _≤_}
 use native.Mathlib.Omega.{arith}
-use lib.ListN.{length, getD, length-append}
-use Rattle.rows.specs.Lists.{countOf}
+use lib.ListN.{length, length-append}
 use Rattle.model.specs.Board.{coresOf}
 use Rattle.model.specs.Movers.{movers}
-use Rattle.model.specs.Split.{Ticks, share, ticksOn}
-use Rattle.model.specs.Timetable.{isOf, ticksIn}
+use Rattle.model.specs.Split.{Ticks}
 use Rattle.model.specs.declared.Board.{Board}
 use Rattle.model.specs.declared.Kind.{Kind}
 use Rattle.model.specs.declared.Kind.the-variants.{First, Second}
-use Rattle.model.specs.declared.Slice.{Slice}
 use Rattle.model.proofs.RoomLaws.{room-most, room-both}
 use Rattle.model.proofs.Movers.{movers-few}
 use Rattle.slices.specs.Fits.{Fits}
@@ -22,24 +18,9 @@ use Rattle.slices.specs.Table.{piecesOf, tableOf}
 use Rattle.slices.proofs.Packs.{cuts, packed-length, cuts-few}
 use Rattle.slices.proofs.Pieces.{pieces-total, pieces-few}
 use Rattle.slices.proofs.Places.{Placed, pieces-placed}
-use Rattle.slices.proofs.Timetabled.{rowsOn, sized, table-timetable}
-
-ticks-some : (kind : Kind) (job : ℕ) (rows : List Slice) → 0 < ticksIn kind job rows → 0 < countOf (isOf kind job) rows
-ticks-some kind job [] h = omega arith
-ticks-some kind job (s ∷ rows) h = go (isOf kind job s) h (ticks-some kind job rows)
-  where
-    go : (t : Bool) → 0 < cond t (s .length) 0 + ticksIn kind job rows → (0 < ticksIn kind job rows → 0 < countOf (isOf kind job) rows)
-        → 0 < cond t 1 0 + countOf (isOf kind job) rows
-    go true h more = omega arith
-    go false h more = omega (arith, more (omega arith))
+use Rattle.slices.proofs.Timetabled.{rowsOn, sized}
 
 module _ (board : Board) (ss : List Ticks) (fits : Fits board ss) where
-  -- Every job with a share above 0 on a kind has a slice there.
-  pub table-jobs : (kind : Kind) (job : ℕ) → job < length ss → 0 < ticksOn kind (getD ss job (share 0 0))
-      → 0 < countOf (isOf kind job) (tableOf (board .window) ss)
-  table-jobs kind job h some =
-      ticks-some kind job (tableOf (board .window) ss) (omega (arith, table-timetable board ss fits .served kind job h))
-
   pub fits-movers : movers ss ≤ board .first + board .second
   fits-movers =
       movers-few (board .window) (board .first) (board .second) ss (fits .some) (fits .one-uneven)

@@ -14,7 +14,6 @@ use Rattle.model.specs.Timetable.{ticksIn}
 use Rattle.model.specs.declared.Kind.{Kind}
 use Rattle.model.specs.declared.Kind.the-variants.{First, Second}
 use Rattle.model.specs.declared.Slice.{Slice}
-use Rattle.slices.specs.OncePerCore.{CoresDiffer}
 use Rattle.slices.specs.Table.{Piece, sliceOf, cutOf}
 
 -- The position at which a slice begins, in the kind's direction.
@@ -68,15 +67,6 @@ module _ (k : Kind) (w o : ℕ) (p : Piece) (wide : 1 ≤ w) where
             (cut-wide o (o + p .ticks) (omega arith) (omega arith) first, (cut-wide o (o + p .ticks) (omega arith) (omega arith) second, tt)),
             (((λ same. omega (arith, first .high, second .low)), tt), (tt, tt)),
           )
-
-  -- The second slice of a run is on another core.
-  pub cut-cores : Pairs CoresDiffer (cutOf k w o p)
-  unfolding cutOf
-  cut-cores = go (leb (o % w + p .ticks) w) refl
-    where
-      go : (t : Bool) → leb (o % w + p .ticks) w ≡ t → Pairs CoresDiffer (cutOf k w o p)
-      go true t = rw t (tt, tt)
-      go false t = rw t (((λ job same. omega (arith, same .1)), tt), (tt, tt))
 
   -- The lengths of the slices of a run add up to it.
   pub cut-ticks : (kind : Kind) (job : ℕ) → ticksIn kind job (cutOf k w o p) ≡ cond (sameKind kind k && eqb (p .job) job) (p .ticks) 0

@@ -16,17 +16,8 @@ mod Places
 pub mod Timetabled
 -- How many slices the table has at the most.
 pub mod Counts
--- How many edges of cores the runs of jobs pass at the most, where a mover counts 2 and its own, and any other job its own twice.
+-- How many edges of cores the movers and the others pass at the most.
 mod CutsMost
--- ---- all moves of a plan are its slices less its jobs: no promise needs this theorem, and the planner's bound on moves cites it
--- Counts over the rows of a table, job by job.
-mod Totals
--- What the slice before a slice is.
-mod Earlier
--- Where no job comes back to a core, all moves and the jobs are the rows.
-pub mod MovesAll
--- No job of the table comes back to a core.
-pub mod OncePerCore
 -- ---- what no promise needs and a reader may
 -- The promise allows one result.
 mod Determined

@@ -32,7 +32,7 @@ use Rattle.slices.proofs.Places.{offset, Placed, pieces-placed, offset-
 abbrev pub rowsOn : Kind → ℕ → List Ticks → List Slice
 rowsOn k w ss = packed k w 0 (piecesOf k w ss)
 
-pub kinds-same-not : (s t : Slice) → s .kind ≡ First → t .kind ≡ Second → s .kind ≡ t .kind → ⊥
+kinds-same-not : (s t : Slice) → s .kind ≡ First → t .kind ≡ Second → s .kind ≡ t .kind → ⊥
 kinds-same-not s t e f same = never (cc)
 
 -- The place of a tick on a core, in the kind's direction.
@@ -108,7 +108,7 @@ module _ (board : Board) (ss : List Ticks) where
   row-ticks k j s kind job row = rw (sym kind, sym job) (omega (arith, row .low, row .high, row .inside .some))
 
   module _ (fits : Fits board ss) where
-    both-short : (j : ℕ) → j < length ss → ticksOn First (shareAt ss j) + ticksOn Second (shareAt ss j) ≤ w
+    pub both-short : (j : ℕ) → j < length ss → ticksOn First (shareAt ss j) + ticksOn Second (shareAt ss j) ≤ w
     both-short j h = all-at (λ (s : Ticks). s .first + s .second ≤ w) (share 0 0) ss j h (fits .each)
 
     short : (k : Kind) (j : ℕ) → j < length ss → ticksOn k (shareAt ss j) ≤ w
@@ -119,7 +119,7 @@ module _ (board : Board) (ss : List Ticks) where
     sized k o p h = (h .some, omega (arith, h .ticks, short k (p .job) (h .job)))
 
     -- What every two slices of a kind have, by their runs.
-    pub kind-pairs : (k : Kind) (R : Slice → Slice → Type 0) → ((o : ℕ) (p : Piece) → Placed k w ss o p → Pairs R (cutOf k w o p))
+    kind-pairs : (k : Kind) (R : Slice → Slice → Type 0) → ((o : ℕ) (p : Piece) → Placed k w ss o p → Pairs R (cutOf k w o p))
         → ((o e : ℕ) (p q : Piece) (s t : Slice) → o + p .ticks ≤ e → Placed k w ss o p → Placed k w ss e q
         → Cut k w (p .job) o (o + p .ticks) s → Cut k w (q .job) e (e + q .ticks) t → R s t)
         → Pairs R (rowsOn k w ss)
@@ -176,7 +176,7 @@ module _ (board : Board) (ss : List Ticks) where
         (kind-all First Row (placed-row First)) (kind-all Second Row (placed-row Second))
 
     -- What every two slices of a kind have, and those of two kinds, every two rows have.
-    pub table-pairs : (R : Slice → Slice → Type 0) → ((s t : Slice) → s .kind ≡ First → t .kind ≡ Second → R s t)
+    table-pairs : (R : Slice → Slice → Type 0) → ((s t : Slice) → s .kind ≡ First → t .kind ≡ Second → R s t)
         → ((k : Kind) → Pairs R (rowsOn k w ss)) → Pairs R (tableOf w ss)
     unfolding tableOf
     table-pairs R two one =

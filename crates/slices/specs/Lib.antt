@@ -1,4 +1,3 @@
 pub mod Table
 pub mod Moves
 pub mod Fits
-pub mod OncePerCore

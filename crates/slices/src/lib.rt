@@ -10,18 +10,18 @@ ghost use lib.Dec.{eqb};
 ghost use lib.ListN.{take};
 ghost use Rattle.model.specs.Board.{sameKind};
 ghost use Rattle.model.specs.Limits.{slicesMost};
-ghost use Rattle.slices.specs.Moves.{isBefore, laterOf, beforeOf, isOuter, isInner, movesOf};
+ghost use Rattle.slices.specs.Moves.{isBefore, laterIf, beforeOf, isOuter, isInner, movesOf};
 use model::Kind;
 use model::SLICES_MOST;
 use model::Slice;
 
-// The slice of the same job that runs before a slice in the window, where there is one.
+// The slice of the same job that runs before a slice, where one is found.
 enum Before {
     Nothing,
     Row(Slice),
 }
 
-// How often a job moves in a window: from one kind to the other, and between cores of one kind.
+// How often a job moves in each window, from its last slice to its first too: from one kind to the other, and between cores of one kind.
 pub struct Moves {
     pub outer: u32,
     pub inner: u32,
@@ -46,8 +46,8 @@ fn same_kind(s: Slice, t: Slice) -> bool
 }
 
 // Whether row `r` is of the same job as `s` and starts before it.
-fn is_before(r: Slice, s: Slice) -> bool
-    ensures { λ x. ⌜ x ≡ isBefore r s ⌝ }
+fn is_before(s: Slice, r: Slice) -> bool
+    ensures { λ x. ⌜ x ≡ isBefore s r ⌝ }
 {
     if r.job == s.job {
         r.start < s.start
@@ -56,11 +56,11 @@ fn is_before(r: Slice, s: Slice) -> bool
     }
 }
 
-// Which is the slice before `s`, the one found so far or row `r`.
-fn later_of(found: Before, s: Slice, r: Slice) -> Before
-    ensures { λ x. ⌜ x ≡ laterOf found s r ⌝ }
+// Which starts later, the slice found so far or row `r`, if that counts.
+fn later_if(counts: bool, found: Before, r: Slice) -> Before
+    ensures { λ x. ⌜ x ≡ laterIf counts found r ⌝ }
 {
-    if is_before(r, s) {
+    if counts {
         match found {
             Before::Nothing => Before::Row(r),
             Before::Row(b) => {
@@ -75,19 +75,24 @@ fn later_of(found: Before, s: Slice, r: Slice) -> Before
     }
 }
 
-// The slice before `s` among the first `n` rows.
+// The slice before `s` among the first `n` rows: the last that starts before it, or the last of all, since the window repeats.
 fn before_of(rows: [Slice; SLICES_MOST], n: usize, s: Slice) -> Before
     requires { ⌜ n ≤ slicesMost ⌝ }
     ensures { λ r. ⌜ r ≡ beforeOf (take n rows) s ⌝ }
 {
-    let mut found = Before::Nothing;
+    let mut earlier = Before::Nothing;
+    let mut last = Before::Nothing;
     let mut i: usize = 0;
     while i < n {
         let row = rows[i];
-        found = later_of(found, s, row);
+        earlier = later_if(is_before(s, row), earlier, row);
+        last = later_if(row.job == s.job, last, row);
         i += 1;
     }
-    found
+    match earlier {
+        Before::Nothing => last,
+        Before::Row(_) => earlier,
+    }
 }
 
 // Whether `s` is an outer move from the slice before it.
@@ -143,7 +148,7 @@ fn count_moves(rows: [Slice; SLICES_MOST], n: usize, job: u8) -> Moves
     Moves { outer, inner }
 }
 
-// The moves of a job in a window, by the first `n` rows of a table, or by all of them where it has no `n` rows.
+// The moves of a job in each window, by the first `n` rows of a table, or by all of them where it has no `n` rows.
 pub fn moves_of(rows: [Slice; SLICES_MOST], n: usize, job: u8) -> Moves
     ensures { λ r. ⌜ r ≡ movesOf (take n rows) job ⌝ }
 {

@@ -1,6 +1,6 @@
--- `slices::before_of` meets its contract. The invariant: what the definition makes of the slice found so far and the rows that are left is what
+-- `slices::before_of` meets its contract. The invariant: what the definition makes of each slice found so far and the rows that are left is what
 -- it makes of all. Assumes nothing.
-use mathlib.Core.Path.{_≡_}
+use mathlib.Core.Path.{_≡_, sym, _∙_}
 use Prim.Native.Nat.{_-_, _≤_}
 use native.Mathlib.Omega.{arith}
 use borrow.Author.Needs.{needs}
@@ -8,15 +8,19 @@ use lib.ListN.{length, take, drop}
 use Rattle.rows.proofs.Walk.{left-cons, left-none}
 use Rattle.model.specs.Empty.{noSlice}
 use Rattle.model.specs.Limits.{slicesMost}
-use Rattle.slices.specs.Moves.{beforeFrom, beforeOf}
+use Rattle.slices.specs.Moves.{sameJob, isBefore, latest}
+use Rattle.slices.specs.declared.Before.the-variants.{Nothing}
 use Rattle.slices.proofs.before_of.Statement.{statement}
 use Rattle.slices.proofs.before_of.Tie as tie
 
 abbrev Inv-loop : tie.InvT-loop
-Inv-loop n s rows found₀ i₀ found i = (i ≤ n) × (beforeFrom found s (drop i (take n rows)) ≡ beforeOf (take n rows) s)
+Inv-loop n s rows earlier₀ last₀ i₀ earlier last i =
+    (i ≤ n) ×
+    (latest (isBefore s) earlier (drop i (take n rows)) ≡ latest (isBefore s) Nothing (take n rows)) ×
+    (latest (sameJob s) last (drop i (take n rows)) ≡ latest (sameJob s) Nothing (take n rows))
 
 abbrev μ-loop : tie.MeasureT-loop
-μ-loop n s rows found₀ i₀ found i = n - i
+μ-loop n s rows earlier₀ last₀ i₀ earlier last i = n - i
 
 loop-holds : tie.Need-loop-holds Inv-loop μ-loop
 loop-holds c = search needs
@@ -27,8 +31,14 @@ mul-row c = search needs
 array-copy-out-row : tie.Need-array-copy-out-row Inv-loop μ-loop
 array-copy-out-row c = search needs
 
-later-of-requires : tie.Need-later-of-requires Inv-loop μ-loop
-later-of-requires c κs = search needs
+is-before-requires : tie.Need-is-before-requires Inv-loop μ-loop
+is-before-requires c κs = search needs
+
+later-if-requires : tie.Need-later-if-requires Inv-loop μ-loop
+later-if-requires c κs = search needs
+
+later-if-requires-2 : tie.Need-later-if-requires-2 Inv-loop μ-loop
+later-if-requires-2 c κs = search needs
 
 add-i : tie.Need-add-i Inv-loop μ-loop
 add-i c = search needs
@@ -37,21 +47,43 @@ loop-less : tie.Need-loop-less Inv-loop μ-loop
 loop-less c = search needs
 
 loop-again : tie.Need-loop-again Inv-loop μ-loop
-unfolding beforeFrom
+unfolding latest
 loop-again c =
-    let a = c .before .before .before .before .args in
-    let l = c .before .before .before .loop in
+    let e = c .before .before .before in
+    let l = e .before .before .before .before .loop in
+    let a = e .before .before .before .before .before .args in
     let full : length (a .t1) ≡ slicesMost = search needs in
-    (omega arith, rw (c .later-of .ensures) (rw (left-cons (a .t1) (a .n) (omega arith) (l .i) noSlice (omega arith)) at (l .inv .1)))
+    let row = left-cons (a .t1) (a .n) (omega arith) (l .i) noSlice (omega arith) in (
+      omega arith,
+      rw (e .later-if .ensures, e .before .is-before .ensures) (rw row at (l .inv .1)),
+      rw (c .later-if2 .ensures) (rw row at (l .inv .2)),
+    )
+
+enum-told : tie.Need-enum-told Inv-loop μ-loop
+enum-told c = search needs
+
+enum-told-2 : tie.Need-enum-told-2 Inv-loop μ-loop
+enum-told-2 c = search needs
 
 returns : tie.Need-returns Inv-loop μ-loop
-unfolding beforeFrom
+unfolding latest
 returns c =
-    let a = c .before .before .args in
-    let l = c .before .loop in
+    let l = c .before .before .before .loop in
+    let a = c .before .before .before .before .args in
     let full : length (a .t1) ≡ slicesMost = search needs in
     let end : l .i ≡ a .n = omega arith in
-    rw (end, left-none (a .t1) (a .n) (omega arith)) at (l .inv .1)
+    let none = left-none (a .t1) (a .n) (omega arith) in
+    simp (sym (rw (end, none) at (l .inv .1)) ∙ c .enum-told .given .1, sym (rw (end, none) at (l .inv .2)))
+
+returns-2 : tie.Need-returns-2 Inv-loop μ-loop
+unfolding latest
+returns-2 c =
+    let l = c .before .before .before .loop in
+    let a = c .before .before .before .before .args in
+    let full : length (a .t1) ≡ slicesMost = search needs in
+    let end : l .i ≡ a .n = omega arith in
+    let none = left-none (a .t1) (a .n) (omega arith) in
+    simp (sym (rw (end, none) at (l .inv .1)), c .enum-told2 .given .1)
 
 pub before-of-spec : {M : Type 1} → statement M
 before-of-spec =
@@ -62,8 +94,13 @@ before-of-spec =
     loop-holds
     mul-row
     array-copy-out-row
-    later-of-requires
+    is-before-requires
+    later-if-requires
+    later-if-requires-2
     add-i
     loop-less
     loop-again
-    returns)
+    enum-told
+    enum-told-2
+    returns
+    returns-2)
