@@ -1,3 +1,4 @@
 pub mod Table
 pub mod Moves
 pub mod Fits
+pub mod JobSlices
