@@ -11,7 +11,7 @@ pub mod Causes
 mod WrongPlanners
 -- Each promise allows one result alone. No promise needs this either.
 mod Determined
--- Two sets that reach the bounds of a plan, worked out.
+-- Sets that reach the bounds of a plan, and the moves of one, worked out.
 pub mod Examples
 --
 -- The laws of plans: what an answer counts, and that a plan keeps demand 2.
@@ -24,5 +24,5 @@ mod PlanColumns
 mod PlanTables
 -- The promise of `plan`, from that of `plan_tables` and of the functions over rows of records.
 pub mod Lent
--- The promise of `moves`; and how many moves a plan has, a theorem that no promise needs.
+-- The promise of `moves`; and how often each job of an accepted set moves, theorems that no promise needs.
 pub mod PlanMoves
