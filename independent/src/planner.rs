@@ -396,21 +396,23 @@ pub fn plan_into(
     Ok((shares, slices))
 }
 
-/// The moves of each job inside one window.
+/// The moves of each job in one window of those that repeat.
 pub fn moves(plan: &Plan) -> Vec<Moves> {
     (0..plan.shares.len())
         .map(|job| moves_of(&plan.slices, job))
         .collect()
 }
 
+/// After each slice of the job comes the next by start, and after the last the
+/// first again; a job with one slice stays on its core.
 fn moves_of(slices: &[Slice], job: usize) -> Moves {
     let mut own: Vec<&Slice> = slices.iter().filter(|slice| slice.job == job).collect();
     own.sort_by_key(|slice| slice.start);
     let mut count = Moves::default();
-    for pair in own.windows(2) {
-        if pair[0].kind != pair[1].kind {
+    for (slice, next) in own.iter().zip(own.iter().cycle().skip(1)) {
+        if slice.kind != next.kind {
             count.outer += 1;
-        } else if pair[0].core != pair[1].core {
+        } else if slice.core != next.core {
             count.inner += 1;
         }
     }

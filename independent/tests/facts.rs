@@ -38,12 +38,13 @@ fn the_empty_set() {
     set_has([8, 3], &[], &["balance 80 30"]);
 }
 
-/// Job 1 has ticks 0 to 3 of the first kind and 7 to 9 of the second.
+/// Job 1 has ticks 0 to 3 of the first kind and 7 to 9 of the second: it moves
+/// inside the window, and back at its end.
 #[test]
 fn the_whole_example() {
-    let lines = ["balance -2 10", "moves 0 0 0", "moves 1 1 0"];
+    let lines = ["balance -2 10", "moves 0 0 0", "moves 1 2 0"];
     set_has([1, 1], &[b(6, 9), b(6, 8)], &lines);
-    let mirrored = ["balance 10 -2", "moves 0 0 0", "moves 1 1 0"];
+    let mirrored = ["balance 10 -2", "moves 0 0 0", "moves 1 2 0"];
     set_has([1, 1], &[b(9, 6), b(8, 6)], &mirrored);
 }
 
@@ -52,14 +53,15 @@ fn the_whole_example() {
 /// job 1: 2 0 0 to 3; 1 0 4 to 7; 2 1 8 to 9.
 /// job 2: 1 1 0 to 1; 2 1 2 to 7; 1 0 8 to 9.
 /// job 3: 1 1 2 to 9.
+/// Jobs 1 and 2 end the window on another core of the kind that they begin it on.
 #[test]
 fn the_set_with_eight() {
     let jobs = [b(6, 16), b(6, 16), b(6, 16), f(8)];
     let lines = [
         "balance -6 20",
-        "moves 0 1 0",
-        "moves 1 2 0",
-        "moves 2 2 0",
+        "moves 0 2 0",
+        "moves 1 2 1",
+        "moves 2 2 1",
         "moves 3 0 0",
     ];
     set_has([2, 2], &jobs, &lines);
@@ -67,7 +69,7 @@ fn the_set_with_eight() {
 
 #[test]
 fn other_rows_of_the_table() {
-    let moved = ["balance -2 10", "moves 0 1 0", "moves 1 0 0"];
+    let moved = ["balance -2 10", "moves 0 2 0", "moves 1 0 0"];
     set_has([1, 1], &[b(6, 16), f(6)], &moved);
     let away = ["balance -10 10", "moves 0 0 0", "moves 1 0 0"];
     set_has([1, 1], &[b(10, 10), b(10, 10)], &away);
@@ -78,12 +80,13 @@ fn other_rows_of_the_table() {
 }
 
 /// Job 1 runs past the edge of core 0: it has its last ticks and the first
-/// ones of core 1, which is one move inside a window and two round its end.
+/// ones of core 1, so it moves inside the window and at its end. Job 0 has one
+/// slice.
 #[test]
 fn inner_moves() {
-    let lines = ["balance 8 10", "moves 0 0 0", "moves 1 0 1"];
+    let lines = ["balance 8 10", "moves 0 0 0", "moves 1 0 2"];
     set_has([2, 1], &[f(6), f(6)], &lines);
-    let lines = ["balance 10 8", "moves 0 0 0", "moves 1 0 1"];
+    let lines = ["balance 10 8", "moves 0 0 0", "moves 1 0 2"];
     set_has([1, 2], &[s(6), s(6)], &lines);
     // It ends exactly on the edge.
     let lines = ["balance 4 10", "moves 0 0 0", "moves 1 0 0", "moves 2 0 0"];

@@ -1,5 +1,5 @@
 //! The facts of many texts, found again by the checker's reader and by walking
-//! through the window of a plan tick by tick.
+//! through the windows of a plan tick by tick.
 
 use independent::check::Set;
 use independent::duality::Demand;
@@ -81,8 +81,14 @@ fn run_of(plan: &str, job: usize, window: usize) -> Vec<Option<Place>> {
     run
 }
 
-/// The outer and the inner moves of a run.
+/// The outer and the inner moves that the next window adds to a run.
 fn moves(run: &[Option<Place>]) -> [usize; 2] {
+    let [once, twice] = [1, 2].map(|windows| changes(&run.repeat(windows)));
+    [twice[0] - once[0], twice[1] - once[1]]
+}
+
+/// How often a run changes its kind, and how often its core alone.
+fn changes(run: &[Option<Place>]) -> [usize; 2] {
     let mut places: Vec<Place> = run.iter().flatten().copied().collect();
     places.dedup();
     let outer = |two: &&[Place]| two[0].0 != two[1].0;

@@ -3,7 +3,7 @@
 use independent::check::{check_plan, feasible};
 use independent::planner::{
     moves, plan, plan_into, split, starting_balance, Allowed, Board, Job, Kind, Moves, PerKind,
-    Reason, Refusal, Slice,
+    Plan, Reason, Refusal, Slice,
 };
 use independent::text::plan_text;
 
@@ -39,6 +39,14 @@ fn shares(pairs: &[(i64, i64)]) -> Vec<PerKind> {
     pairs
         .iter()
         .map(|&(first, second)| PerKind::new(first, second))
+        .collect()
+}
+
+/// Moves, each as outer and inner ones.
+fn counts(pairs: &[(usize, usize)]) -> Vec<Moves> {
+    pairs
+        .iter()
+        .map(|&(outer, inner)| Moves { outer, inner })
         .collect()
 }
 
@@ -168,20 +176,47 @@ fn slices_and_moves_of_the_set_with_eight() {
         })
         .collect();
     assert_eq!(plan.slices, expected);
-    let moves = moves(&plan);
-    assert_eq!(moves[0], Moves { outer: 1, inner: 0 });
-    assert_eq!(moves[1], Moves { outer: 2, inner: 0 });
-    assert_eq!(moves[2], Moves { outer: 2, inner: 0 });
-    assert_eq!(moves[3], Moves { outer: 0, inner: 0 });
+    assert_eq!(moves(&plan), counts(&[(2, 0), (2, 1), (2, 1), (0, 0)]));
+}
+
+/// The slices by job, as kind, core, first tick and last:
+/// job 0: 1 0 0 to 5; 2 0 6 to 9.
+/// job 1: 1 1 0 to 1; 2 0 2 to 5; 1 0 6 to 9.
+/// job 2: 2 0 0 to 1; 1 1 2 to 7; 2 1 8 to 9.
+/// job 3: 2 1 0 to 7; 1 1 8 to 9.
+#[test]
+fn the_most_moves_on_four_cores() {
+    let jobs = [b(8, 16), b(8, 16), b(8, 16), b(6, 12)];
+    let plan = plan(&board(10, 2, 2), &jobs).unwrap();
+    assert_eq!(plan.shares, shares(&[(6, 4), (6, 4), (6, 4), (2, 8)]));
+    assert_eq!(moves(&plan), counts(&[(2, 0), (2, 1), (2, 1), (2, 0)]));
 }
 
 #[test]
 fn inner_moves() {
     let plan = plan(&board(10, 2, 1), &[f(6), f(6)]).unwrap();
-    assert_eq!(
-        moves(&plan),
-        [Moves::default(), Moves { outer: 0, inner: 1 }]
-    );
+    assert_eq!(moves(&plan), counts(&[(0, 0), (0, 2)]));
+}
+
+/// The kinds take turns by start. A job of an accepted set has at most three
+/// slices, and round the window their order makes no difference.
+#[test]
+fn moves_by_start() {
+    let slice = |kind, core, start| Slice {
+        job: 0,
+        kind,
+        core,
+        start,
+        length: 1,
+    };
+    let slices = vec![
+        slice(Kind::First, 0, 0),
+        slice(Kind::First, 1, 2),
+        slice(Kind::Second, 0, 1),
+        slice(Kind::Second, 1, 3),
+    ];
+    let shares = shares(&[(2, 2)]);
+    assert_eq!(moves(&Plan { shares, slices }), counts(&[(4, 0)]));
 }
 
 #[test]
