@@ -1,11 +1,13 @@
-//! The sets and texts that the rules name, with the results they name.
+//! The sets and texts that the rules name, with the results they name, and what
+//! the moves of all accepted plans have in common.
 
 use independent::check::{check_plan, feasible};
+use independent::gen;
 use independent::planner::{
     moves, plan, plan_into, split, starting_balance, Allowed, Board, Job, Kind, Moves, PerKind,
     Plan, Reason, Refusal, Slice,
 };
-use independent::text::plan_text;
+use independent::text::{plan_text, read};
 
 fn board(window: i64, first: i64, second: i64) -> Board {
     Board {
@@ -217,6 +219,74 @@ fn moves_by_start() {
     ];
     let shares = shares(&[(2, 2)]);
     assert_eq!(moves(&Plan { shares, slices }), counts(&[(4, 0)]));
+}
+
+/// The accepted plans of generated texts, each with its board.
+fn generated() -> impl Iterator<Item = (Board, Plan)> {
+    (0..6_000).filter_map(|index| {
+        let (board, jobs) = read(&gen::text(5, index)).ok()?;
+        let plan = plan(&board, &jobs).ok()?;
+        Some((board, plan))
+    })
+}
+
+fn slices_of(plan: &Plan, job: usize) -> usize {
+    plan.slices.iter().filter(|slice| slice.job == job).count()
+}
+
+fn all_moves(plan: &Plan) -> usize {
+    moves(plan).iter().map(|job| job.outer + job.inner).sum()
+}
+
+/// A mover changes its kind and changes it back; any other job moves only if
+/// its share is cut, to the other core and back.
+#[test]
+fn moves_by_the_slices_of_a_job() {
+    let mut seen = [[0; 4]; 2];
+    for (board, plan) in generated() {
+        for (job, &found) in moves(&plan).iter().enumerate() {
+            let slices = slices_of(&plan, job);
+            let mover = plan.shares[job].first > 0 && plan.shares[job].second > 0;
+            let (outer, inner) = match (mover, slices) {
+                (true, _) => (2, slices - 2),
+                (false, 1) => (0, 0),
+                (false, 2) => (0, 2),
+                (false, _) => panic!("job {job} in {slices} slices: {board:?} {plan:?}"),
+            };
+            let expected = Moves { outer, inner };
+            assert_eq!(found, expected, "job {job}: {board:?} {plan:?}");
+            seen[usize::from(mover)][slices] += 1;
+        }
+    }
+    let [[_, whole, cut, _], [_, _, whole_mover, cut_mover]] = seen;
+    assert!(whole > 500 && cut > 500, "{seen:?}");
+    assert!(whole_mover > 500 && cut_mover > 500, "{seen:?}");
+}
+
+/// Each slice is followed by a move, unless it is the only one of its job.
+#[test]
+fn all_moves_by_the_slices() {
+    let mut seen = 0;
+    for (board, plan) in generated() {
+        let jobs = 0..plan.shares.len();
+        let alone = jobs.filter(|&job| slices_of(&plan, job) == 1).count();
+        let found = all_moves(&plan);
+        assert_eq!(found, plan.slices.len() - alone, "{board:?} {plan:?}");
+        seen += usize::from(found > 0 && alone > 0);
+    }
+    assert!(seen > 500, "{seen}");
+}
+
+#[test]
+fn the_most_moves() {
+    let mut reached = 0;
+    for (board, plan) in generated() {
+        let most = 3 * (board.cores.first + board.cores.second) as usize - 2;
+        let found = all_moves(&plan);
+        assert!(found <= most, "{found} moves: {board:?} {plan:?}");
+        reached += usize::from(found == most);
+    }
+    assert!(reached > 20, "{reached}");
 }
 
 #[test]
