@@ -20,10 +20,12 @@ times() { printf " $2%.0s" $(seq "$1"); }
 twice=02000000000a0000000a # B(10,10)
 six=02000000000600000010   # B(6,16)
 
-says 'one mover' "$(<examples/two-jobs.txt)" 'balance -2 10;moves 0 0 0;moves 1 1 0'
-says 'even movers' "01000a0202 $six $six $six 02010000000800000000" 'balance -6 20;moves 0 1 0;moves 1 2 0;moves 2 2 0;moves 3 0 0'
-says 'two cores of the first kind' "01000a0201$(times 3 02010000000600000000)" 'balance 2 10;moves 0 0 0;moves 1 0 1;moves 2 0 0'
-says 'two cores of the second kind' "01000a0102$(times 3 02020000000000000006)" 'balance 10 2;moves 0 0 0;moves 1 0 1;moves 2 0 0'
+says 'one mover' "$(<examples/two-jobs.txt)" 'balance -2 10;moves 0 0 0;moves 1 2 0'
+says 'even movers' "01000a0202 $six $six $six 02010000000800000000" 'balance -6 20;moves 0 2 0;moves 1 2 1;moves 2 2 1;moves 3 0 0'
+says 'as many moves as can be' "01000a0202$(times 3 02000000000800000010) 0200000000060000000c" \
+    'balance -10 20;moves 0 2 0;moves 1 2 1;moves 2 2 1;moves 3 2 0'
+says 'two cores of the first kind' "01000a0201$(times 3 02010000000600000000)" 'balance 2 10;moves 0 0 0;moves 1 0 2;moves 2 0 0'
+says 'two cores of the second kind' "01000a0102$(times 3 02020000000000000006)" 'balance 10 2;moves 0 0 0;moves 1 0 2;moves 2 0 0'
 says '64 jobs' "01000a0808$(times 64 02020000000000000001)" "balance 80 16$(for ((i = 0; i < 64; i++)); do printf ';moves %d 0 0' "$i"; done)"
 says 'no jobs' 01000a0101 'balance 10 10'
 
