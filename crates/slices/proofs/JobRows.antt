@@ -9,6 +9,7 @@ use borrow.Author.Tests.{eqb-true, ltb-true, ltb-false}
 use lib.Dec.{eqb, leb, ltb}
 use lib.ListN.{length}
 use Rattle.rows.specs.Lists.{countOf}
+use Rattle.rows.proofs.Lists.{sum-same}
 use Rattle.model.specs.Split.{Ticks, ticksOn}
 use Rattle.model.specs.declared.Kind.{Kind}
 use Rattle.model.specs.declared.Kind.the-variants.{First, Second}
@@ -82,15 +83,11 @@ module _ (j : ℕ) where
       go true q = ap (λ (b : Before). test b s) (rows-before rows s (eqb-true _ _ q))
       go false q = refl
 
-  count-same : (f g : Slice → Bool) → ((s : Slice) → f s ≡ g s) → (rows : List Slice) → countOf f rows ≡ countOf g rows
-  count-same f g e [] = refl
-  count-same f g e (s ∷ rows) = omega (arith, ap {B = ℕ} (λ (t : Bool). cond t 1 0) (e s), count-same f g e rows)
-
   rows-counted : (test : Before → Slice → Bool) (rows : List Slice)
       → countOf (counted test rows j) rows ≡ countOf (counted test (rowsOf rows) j) (rowsOf rows)
   rows-counted test rows =
       rows-count (counted test rows j) (λ s h. and-eq-true-iff (eqb (s .job) j) (test (beforeOf rows s) s) .0 h .0) rows
-      ∙ count-same (counted test rows j) (counted test (rowsOf rows) j) (counted-same test rows) (rowsOf rows)
+      ∙ sum-same _ _ (λ s. ap {B = ℕ} (λ (t : Bool). cond t 1 0) (counted-same test rows s)) (rowsOf rows)
 
   pub rows-moves : (rows : List Slice) → movesOf rows j ≡ movesOf (rowsOf rows) j
   rows-moves rows = rw (rows-counted isOuter rows, rows-counted isInner rows)

@@ -2,10 +2,11 @@
 use mathlib.Core.Path.{_≡_, refl, _∙_}
 use mathlib.Core.Bool.{true}
 use mathlib.Core.List.{List}
-use Prim.Native.Nat.{ℕ, zero, suc, _-_, _≤_, _<_}
+use Prim.Native.Nat.{ℕ, _≤_, _<_}
 use native.Mathlib.Omega.{arith}
 use borrow.Author.Tests.{le-ltb, lt-ltb}
-use lib.ListN.{drop, replicate}
+use lib.ListN.{replicate}
+use Rattle.rows.proofs.Walk.{replicate-left}
 use Rattle.model.specs.Limits.{jobsMost}
 use Rattle.model.specs.Refusal.{Answer, given, refused, saysRefusal}
 use Rattle.model.specs.Split.{Ticks}
@@ -19,12 +20,6 @@ use Rattle.split.specs.declared.Outcome.the-variants.{Shares}
 pub answers-none : (refusal : Refusal) {answer : Answer (List Ticks)} → saysRefusal refusal ≡ answer → Answers answer (none refusal)
 answers-none refusal e = record { says = e; few = omega arith; rest1 = refl; rest2 = refl }
 
--- What is left of zeros.
-zeros-left : (n m : ℕ) → drop {A = ℕ} n (replicate m 0) ≡ replicate (m - n) 0
-zeros-left zero m = let e : m - 0 ≡ m = omega arith in rw e
-zeros-left (suc n) zero = let e : 0 - suc n ≡ 0 = omega arith in rw e
-zeros-left (suc n) (suc m) = let e : suc m - suc n ≡ m - n = omega arith in rw e (zeros-left n m)
-
 -- Shares that were put into columns of zeros.
 pub answers-shares : (n : ℕ) (s1 s2 : List ℕ) {answer : Answer (List Ticks)} → n ≤ jobsMost
     → Answered answer n (replicate jobsMost 0) (replicate jobsMost 0) s1 s2 true
@@ -32,8 +27,8 @@ pub answers-shares : (n : ℕ) (s1 s2 : List ℕ) {answer : Answer (List Ticks)}
 answers-shares n s1 s2 few x = record {
   says = x .is;
   few = few;
-  rest1 = x .rest1 ∙ zeros-left n jobsMost;
-  rest2 = x .rest2 ∙ zeros-left n jobsMost;
+  rest1 = x .rest1 ∙ replicate-left n jobsMost 0;
+  rest2 = x .rest2 ∙ replicate-left n jobsMost 0;
 }
 
 -- Which answer the definition gives, by which kinds are over at home.
