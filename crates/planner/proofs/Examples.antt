@@ -25,7 +25,7 @@ use Rattle.slices.specs.Moves.{laterIf, latest, moves}
 use Rattle.slices.specs.Table.{chosen, piecesOf, cutOf, packed, tableOf}
 use Rattle.slices.specs.declared.Moves.{Moves}
 use Rattle.planner.specs.Plan.{planOf, sharesGiven, slicesGiven}
-use Rattle.planner.specs.PlanMoves.{movesBelow, movesIn, roomyPlan}
+use Rattle.planner.specs.PlanMoves.{movesIn, roomyPlan}
 
 abbrev pub board : Board
 board = record { window = 1000; first = 8; second = 8 }
@@ -53,7 +53,7 @@ four = record { window = 10; first = 2; second = 2 }
 pub eight-moves : movesIn (roomyPlan four 4 (both 6 16 ∷ both 6 16 ∷ both 6 16 ∷ OnlyFirst (record { 0 = 8 }) ∷ []))
     ≡ moves 2 0 ∷ moves 2 1 ∷ moves 2 1 ∷ moves 0 0 ∷ []
 unfolding lowest legalOf atHome keepOf giveOf better nextFrom movedOf stepOf stepsOf settled byOver chosen piecesOf cutOf packed tableOf roomOf
-    laterIf latest movesBelow
+    laterIf latest
 eight-moves = refl
 
 abbrev restless : List Job
@@ -63,5 +63,5 @@ pub most-moves : (sharesGiven (roomyPlan four 4 restless) ≡ share 6 4 ∷ shar
     × (movesIn (roomyPlan four 4 restless) ≡ moves 2 0 ∷ moves 2 1 ∷ moves 2 1 ∷ moves 2 0 ∷ [])
     × (sumOf (λ (m : Moves). m .outer + m .inner) (movesIn (roomyPlan four 4 restless)) + 2 ≡ 3 * (four .first + four .second))
 unfolding lowest legalOf atHome keepOf giveOf better nextFrom movedOf stepOf stepsOf settled byOver chosen piecesOf cutOf packed tableOf roomOf
-    laterIf latest movesBelow
+    laterIf latest
 most-moves = (refl, refl, refl)

@@ -1,6 +1,5 @@
 -- The moves of a planned set: the promise of `moves`, and what follows from it of every accepted set: how often each job moves, exactly, and how
 -- often all of them together.
---   below-length, below-fill, below-sum, below-at   the list of the moves of the jobs below n
 --   moves-promised    the promise of `moves`
 --   outers, inners    the outer moves of all jobs together, and the inner ones
 --   planned-given     a set that the call says is planned has a plan
@@ -13,20 +12,21 @@
 -- Assumes nothing.
 use mathlib.Core.Path.{_≡_, refl, sym, ap, _∙_}
 use mathlib.Core.Bool.{Bool, true, false}
-use mathlib.Core.List.{List, [], _∷_, _++_, map, append-assoc}
+use mathlib.Core.List.{List, [], _∷_, _++_, map}
 use mathlib.Core.Logic.{_⊎_}
 use Prim.Native.Nat.{ℕ, zero, suc, _+_, _-_, _*_, _≤_, _<_}
 use native.Mathlib.Nat.{mul-le-mul}
-use native.Mathlib.Numerals.{add-one}
 use native.Mathlib.Omega.{arith}
 use borrow.Author.Tests.{ltb-true, ltb-false, le-ltb}
 use lib.Dec.{ltb}
-use lib.ListN.{length, getD, take, set, replicate, length-append, List·getD-append}
-use lib.Seq.{set-at, getD-at}
+use lib.ListN.{length, getD, take, replicate, List·getD-append}
 use Rattle.rows.specs.Lists.{All, sumOf}
 use Rattle.rows.specs.Numbered.{sumBelow}
+use Rattle.rows.specs.Upto.{upto}
 use Rattle.rows.proofs.Never.{never}
 use Rattle.rows.proofs.Lists.{all-at, sum-append}
+use Rattle.rows.proofs.Numbered.{below-upto}
+use Rattle.rows.proofs.Upto.{upto-length, upto-at}
 use Rattle.model.specs.Limits.{jobsMost, slicesMost}
 use Rattle.model.specs.Movers.{isMover}
 use Rattle.model.specs.Packed.{sliceIn}
@@ -46,7 +46,7 @@ use Rattle.slices.specs.Moves.{movesOf}
 use Rattle.slices.specs.Table.{tableOf}
 use Rattle.slices.specs.declared.Moves.{Moves}
 use Rattle.slices.proofs.JobMoves.{mover-moves, other-moves, many-moves, table-moves, table-moves-few}
-use Rattle.planner.specs.PlanMoves.{movesBelow, movesIn, noMoves, roomyPlan, MovesPromised}
+use Rattle.planner.specs.PlanMoves.{movesIn, noMoves, roomyPlan, MovesPromised}
 use Rattle.planner.specs.ByValue.{Filled}
 use Rattle.planner.specs.Plan.{Plan, planFrom, fitted, sharesGiven, slicesGiven, Counts, countsIn, saysPlanned}
 use Rattle.planner.specs.declared.PlannedMoves.{PlannedMoves}
@@ -54,42 +54,8 @@ use Rattle.planner.specs.declared.Tables.{Tables}
 use Rattle.planner.proofs.ColumnFronts.{slices-take}
 use Rattle.planner.proofs.PlanLaws.{shares-lawful, shares-accepted, accepted-few, shares-fit, plan-shares}
 
--- ---- the list of moves
-module _ (rows : List Slice) where
-  pub below-length : (n : ℕ) → length (movesBelow rows n) ≡ n
-  unfolding movesBelow
-  below-length zero = refl
-  below-length (suc n) = simp length-append (omega (arith, below-length n))
-
-  -- The table of the moves with one row more.
-  pub below-fill : (m n : ℕ) → n < m → set (movesBelow rows n ++ replicate (m - n) noMoves) n (movesOf rows n)
-      ≡ movesBelow rows (n + 1) ++ replicate (m - (n + 1)) noMoves
-  unfolding movesBelow
-  below-fill m n h =
-      let e : m - n ≡ suc (m - (n + 1)) = omega arith in
-      rw (e, set-at (movesBelow rows n) noMoves (replicate (m - (n + 1)) noMoves) (movesOf rows n) n (below-length n), add-one, append-assoc)
-
-  below-sum : (f : Moves → ℕ) (n : ℕ) → sumOf f (movesBelow rows n) ≡ sumBelow n (λ (j : ℕ). f (movesOf rows j))
-  unfolding movesBelow
-  below-sum f zero = refl
-  below-sum f (suc n) = omega (arith, sum-append f (movesBelow rows n) (movesOf rows n ∷ []), below-sum f n)
-
-  below-at : (n j : ℕ) → j < n → getD (movesBelow rows n) j noMoves ≡ movesOf rows j
-  unfolding movesBelow
-  below-at zero j h = absurd (omega arith)
-  below-at (suc n) j h = go (ltb j n) refl (below-at n j)
-    where
-      go : (t : Bool) → ltb j n ≡ t → (j < n → getD (movesBelow rows n) j noMoves ≡ movesOf rows j)
-          → getD (movesBelow rows n ++ (movesOf rows n ∷ [])) j noMoves ≡ movesOf rows j
-      go true t more =
-          List·getD-append (movesBelow rows n) (movesOf rows n ∷ []) noMoves j (omega (arith, below-length n, ltb-true j n t)) ∙ more (ltb-true j n t)
-      go false t more =
-          let last : j ≡ n = omega (arith, ltb-false j n t) in
-          rw last (getD-at (movesBelow rows n) (movesOf rows n) [] noMoves n (below-length n))
-
 -- ---- the code's tables
-moves-in : (x : Answer Plan) → movesIn x ≡ movesBelow (slicesGiven x) (length (sharesGiven x))
-unfolding movesBelow
+moves-in : (x : Answer Plan) → movesIn x ≡ upto (length (sharesGiven x)) (movesOf (slicesGiven x))
 moves-in (given p) = refl
 moves-in (refused number place) = refl
 
@@ -97,15 +63,15 @@ moves-in (refused number place) = refl
 pub moves-promised : (board : Board) (n : ℕ) (ks js : List Job) (t : Tables) (rows : List Slice) (moves : List Moves)
     → sharesOf board n ks ≡ sharesOf board n js → Filled board n ks jobsMost slicesMost t
     → t .sliced ≤ length (t .slices) → rows ≡ map sliceIn (t .slices)
-    → moves ≡ movesBelow (take (t .sliced) rows) (t .shared) ++ replicate (jobsMost - t .shared) noMoves
+    → moves ≡ upto (t .shared) (movesOf (take (t .sliced) rows)) ++ replicate (jobsMost - t .shared) noMoves
     → MovesPromised board n js (record { planned = t .planned; moves = moves })
 moves-promised board n ks js t rows moves same f there rows-are e =
     let x : Answer Plan = roomyPlan board n ks in
     let plan : x ≡ roomyPlan board n js =
     ap (λ (y : Answer (List Ticks)). andThen y (λ (ss : List Ticks). fitted jobsMost slicesMost (planFrom board ss))) same in
     let slices : take (t .sliced) rows ≡ slicesGiven x = rw (rows-are, ← slices-take (t .sliced) (t .slices) there) (f .slices) in
-    let all : movesBelow (take (t .sliced) rows) (t .shared) ≡ movesIn x = rw (slices, f .shared) (sym (moves-in x)) in
-    let count : t .shared ≡ length (movesIn x) = f .shared ∙ sym (ap length (moves-in x) ∙ below-length (slicesGiven x) (length (sharesGiven x))) in
+    let all : upto (t .shared) (movesOf (take (t .sliced) rows)) ≡ movesIn x = rw (slices, f .shared) (sym (moves-in x)) in
+    let count : t .shared ≡ length (movesIn x) = f .shared ∙ sym (ap length (moves-in x) ∙ upto-length (length (sharesGiven x)) (movesOf (slicesGiven x))) in
     record {
       says = f .says ∙ ap countsIn plan;
       moves = e ∙ rw (all, count) (ap (λ (y : Answer Plan). movesIn y ++ replicate (jobsMost - length (movesIn y)) noMoves) plan);
@@ -172,22 +138,22 @@ module _ {board : Board} {n : ℕ} {js : List Job} {r : PlannedMoves} {p : Plan}
   abbrev unused : ℕ
   unused = jobsMost - length (movesIn (roomyPlan board n js))
 
-  moves-are : r .moves ≡ movesBelow (p .slices) (length (p .shares)) ++ replicate unused noMoves
+  moves-are : r .moves ≡ upto (length (p .shares)) (movesOf (p .slices)) ++ replicate unused noMoves
   moves-are = promised .moves ∙ ap (λ (x : Answer Plan). movesIn x ++ replicate unused noMoves) is
 
   moves-at : (j : ℕ) → j < length (p .shares) → movesAt j ≡ movesOf (p .slices) j
   moves-at j h =
       ap (λ (ms : List Moves). getD ms j noMoves) moves-are
-      ∙ List·getD-append (movesBelow (p .slices) (length (p .shares))) _ noMoves j (omega (arith, below-length (p .slices) (length (p .shares))))
-      ∙ below-at (p .slices) (length (p .shares)) j h
+      ∙ List·getD-append (upto (length (p .shares)) (movesOf (p .slices))) _ noMoves j (omega (arith, upto-length (length (p .shares)) (movesOf (p .slices))))
+      ∙ upto-at (length (p .shares)) (movesOf (p .slices)) noMoves j h
 
   moves-sum : (f : Moves → ℕ) → f noMoves ≡ 0 → sumOf f (r .moves) ≡ sumBelow (length (p .shares)) (λ (j : ℕ). f (movesOf (p .slices) j))
   moves-sum f none =
       ap (λ (ms : List Moves). sumOf f ms) moves-are
       ∙ omega (
         arith,
-        sum-append f (movesBelow (p .slices) (length (p .shares))) (replicate unused noMoves),
-        below-sum (p .slices) f (length (p .shares)),
+        sum-append f (upto (length (p .shares)) (movesOf (p .slices))) (replicate unused noMoves),
+        below-upto f (length (p .shares)) (movesOf (p .slices)),
         unused-sum f none unused,
       )
 

@@ -1,30 +1,25 @@
 -- The moves of a planned set: docs/SPEC.md, "Moves". A refused set gets its refusal instead.
---   movesBelow      the moves of each job below n, in order
---   movesIn         the moves of each job of a plan: none where the set is refused
+--   movesIn         the moves of each job of a plan, by number: none where the set is refused
 --   noMoves         what stands in rows that are not used
 --   roomyPlan       the plan of a set, for tables that are long enough for every set
 --   MovesPromised   what the call for moves promises: what the planning call answers, and every row
 -- Assumes nothing.
-use mathlib.Core.List.{List, [], _∷_, _++_}
+use mathlib.Core.List.{List, [], _++_}
 use mathlib.Core.Path.{_≡_}
-use Prim.Native.Nat.{ℕ, zero, suc, _-_}
+use Prim.Native.Nat.{ℕ, _-_}
 use lib.ListN.{length, replicate}
+use Rattle.rows.specs.Upto.{upto}
 use Rattle.model.specs.Limits.{jobsMost, slicesMost}
 use Rattle.model.specs.Refusal.{Answer, given, refused}
 use Rattle.model.specs.declared.Board.{Board}
 use Rattle.model.specs.declared.Job.{Job}
-use Rattle.model.specs.declared.Slice.{Slice}
 use Rattle.slices.specs.Moves.{moves, movesOf}
 use Rattle.slices.specs.declared.Moves.{Moves}
 use Rattle.planner.specs.Plan.{Plan, planOf, countsIn, saysPlanned}
 use Rattle.planner.specs.declared.PlannedMoves.{PlannedMoves}
 
-unfoldable pub movesBelow : List Slice → ℕ → List Moves
-movesBelow rows zero = []
-movesBelow rows (suc n) = movesBelow rows n ++ (movesOf rows n ∷ [])
-
 abbrev pub movesIn : Answer Plan → List Moves
-movesIn (given p) = movesBelow (p .slices) (length (p .shares))
+movesIn (given p) = upto (length (p .shares)) (movesOf (p .slices))
 movesIn (refused number place) = []
 
 abbrev pub noMoves : Moves

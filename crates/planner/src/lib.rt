@@ -8,12 +8,14 @@ ghost use mathlib.Core.Path.{_≡_};
 ghost use mathlib.Core.List.{_++_, map};
 ghost use Prim.Native.Nat.{_-_, _≤_};
 ghost use lib.ListN.{length, take, drop, replicate};
+ghost use Rattle.rows.specs.Upto.{upto};
 ghost use Rattle.model.specs.Columns.{costOn, jobsIn, sharesIn};
 ghost use Rattle.model.specs.Limits.{jobsMost, slicesMost};
 ghost use Rattle.model.specs.Packed.{sliceIn, slicesIn};
 ghost use Rattle.model.specs.ShareRow.{rowOf};
 ghost use Rattle.model.specs.Split.{share};
-ghost use Rattle.planner.specs.PlanMoves.{movesBelow, noMoves, MovesPromised};
+ghost use Rattle.slices.specs.Moves.{movesOf};
+ghost use Rattle.planner.specs.PlanMoves.{noMoves, MovesPromised};
 ghost use Rattle.planner.specs.Plan.{tooShort};
 ghost use Rattle.planner.specs.ByValue.{fitOf, noRows, Filled};
 ghost use Rattle.planner.specs.Promise.{Columned, Promised};
@@ -199,7 +201,7 @@ fn rows_of(slices: [u64; SLICES_MOST]) -> [Slice; SLICES_MOST]
 // The moves of the first `n` jobs, by the first `sliced` rows of a table.
 fn moves_below(rows: [Slice; SLICES_MOST], sliced: usize, n: usize) -> [Moves; JOBS_MOST]
     requires { ⌜ n ≤ jobsMost ⌝ }
-    ensures { λ r. ⌜ r ≡ movesBelow (take sliced rows) n ++ replicate (jobsMost - n) noMoves ⌝ }
+    ensures { λ r. ⌜ r ≡ upto n (movesOf (take sliced rows)) ++ replicate (jobsMost - n) noMoves ⌝ }
 {
     let mut moves = [Moves { outer: 0, inner: 0 }; JOBS_MOST];
     let mut i: usize = 0;

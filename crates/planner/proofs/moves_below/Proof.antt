@@ -4,21 +4,23 @@ use mathlib.Core.List.{_++_}
 use Prim.Native.Nat.{_-_, _≤_}
 use native.Mathlib.Omega.{arith}
 use borrow.Author.Needs.{needs}
-use lib.ListN.{take, replicate}
+use lib.ListN.{take, drop, replicate, length-replicate}
+use Rattle.rows.specs.Upto.{upto}
+use Rattle.rows.proofs.Upto.{upto-fill}
+use Rattle.rows.proofs.Walk.{replicate-left}
 use Rattle.model.specs.Limits.{jobsMost}
-use Rattle.planner.specs.PlanMoves.{movesBelow, noMoves}
-use Rattle.planner.proofs.PlanMoves.{below-fill}
+use Rattle.slices.specs.Moves.{movesOf}
+use Rattle.planner.specs.PlanMoves.{noMoves}
 use Rattle.planner.proofs.moves_below.Statement.{statement}
 use Rattle.planner.proofs.moves_below.Tie as tie
 
 abbrev Inv-loop : tie.InvT-loop
-Inv-loop rows sliced n moves₀ i₀ moves i = (i ≤ n) × (moves ≡ movesBelow (take sliced rows) i ++ replicate (jobsMost - i) noMoves)
+Inv-loop rows sliced n moves₀ i₀ moves i = (i ≤ n) × (moves ≡ upto i (movesOf (take sliced rows)) ++ drop i (replicate jobsMost noMoves))
 
 abbrev μ-loop : tie.MeasureT-loop
 μ-loop rows sliced n moves₀ i₀ moves i = n - i
 
 loop-holds : tie.Need-loop-holds Inv-loop μ-loop
-unfolding movesBelow
 loop-holds c = search needs
 
 cast-moves-of : tie.Need-cast-moves-of Inv-loop μ-loop
@@ -43,13 +45,13 @@ loop-again : tie.Need-loop-again Inv-loop μ-loop
 loop-again c =
     let a = c .before .before .before .args in
     let l = c .before .before .loop in
-    (omega arith, rw (c .moves-of .ensures, l .inv .1) (below-fill (take (a .sliced) (a .rows)) jobsMost (l .i) (omega arith)))
+    (omega arith, rw (c .moves-of .ensures, l .inv .1) (upto-fill (movesOf (take (a .sliced) (a .rows))) (replicate jobsMost noMoves) (l .i) (omega (arith, length-replicate jobsMost noMoves))))
 
 returns : tie.Need-returns Inv-loop μ-loop
 returns c =
     let l = c .before .loop in
     let end : l .i ≡ c .before .before .args .n = omega arith in
-    rw end at (l .inv .1)
+    rw (end, replicate-left (c .before .before .args .n) jobsMost noMoves) at (l .inv .1)
 
 pub moves-below-spec : {M : Type 1} → statement M
 moves-below-spec =
