@@ -12,7 +12,7 @@ pub mod Lowest
 -- Lists of a function's values, and a column that is filled from its start.
 pub mod Upto
 -- Elements that are taken with their numbers, and sums over the numbers below n: they serve theorems that no promise needs, on all moves of a plan,
--- on its cuts and on the closed form of the split.
+-- on its cuts, on the closed form of the split and on what the handler names over a window.
 pub mod Numbered
 -- A walk over the first n of a list, and the table that it fills.
 pub mod Walk

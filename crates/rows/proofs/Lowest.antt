@@ -2,6 +2,7 @@
 --   lowest-map             a test that answers the same of what elements are mapped to has the same lowest there
 --   none-lowest, lowest-none   the test holds of no element exactly where the lowest is the count
 --   lowest-is, lowest-of   the lowest by the fact that the test tells, there and back
+--   some-tells             whether there is one before the end tells that the fact holds of one of them
 --   SoughtTo               a walk that looks for the lowest has come to place i, and found none before it
 --   sought-here, sought-on, sought-all   it ends at i, goes on, and ends with none found
 -- Assumes nothing.
@@ -10,12 +11,14 @@ use mathlib.Core.Bool.{Bool, true, false, cond}
 use mathlib.Core.List.{List, [], _∷_, map}
 use Prim.Native.Nat.{ℕ, zero, suc, _+_, _≤_, _<_}
 use native.Mathlib.Omega.{arith}
+use lib.Dec.{ltb}
 use lib.ListN.{length, getD, drop}
 use Rattle.rows.specs.Lists.{All, lowest}
 use Rattle.rows.specs.Numbered.{LowestIn}
 use Rattle.rows.specs.Upto.{upto}
-use Rattle.rows.proofs.Tells.{Tells, holds, fails, told, untold}
-use Rattle.rows.proofs.Upto.{upto-left, upto-none}
+use Rattle.rows.proofs.Lists.{all-at}
+use Rattle.rows.proofs.Tells.{Tells, holds, fails, less-tells, told, untold, no-fact}
+use Rattle.rows.proofs.Upto.{upto-length, upto-at, upto-left, upto-none}
 
 module _ {A : Type 0} (test : A → Bool) where
   pub lowest-map : (f : A → A) → ((x : A) → test (f x) ≡ test x) → (xs : List A) → lowest test (map f xs) ≡ lowest test xs
@@ -68,6 +71,21 @@ module _ {A : Type 0} (d : A) (test : A → Bool) (Bad : A → Type 0) (tells : 
 
   pub lowest-of : (xs : List A) (n : ℕ) → n ≡ lowest test xs → n < length xs → LowestIn d Bad xs n
   lowest-of xs n is there = rw is (found xs (rw is at there))
+
+module _ {A : Type 0} (test : A → Bool) (Bad : A → Type 0) (tells : (x : A) → Tells (Bad x) (test x)) (n : ℕ) (f : ℕ → A) where
+  pub some-tells : Tells ((k : ℕ) × (k < n) × Bad (f k)) (ltb (lowest test (upto n f)) n)
+  some-tells = go (less-tells (lowest test (upto n f)) n)
+    where
+      go : {t : Bool} → Tells (lowest test (upto n f) < n) t → Tells ((k : ℕ) × (k < n) × Bad (f k)) t
+      go (holds l) =
+          let low = lowest-of (f 0) test Bad tells (upto n f) _ refl (rw (upto-length n f) l) in
+          holds (lowest test (upto n f), l, rw (upto-at n f (f 0) _ l) at (low .bad))
+      go (fails past) =
+          let none = lowest-none test (upto n f) (omega (arith, upto-length n f)) in
+          fails (λ some. no-fact (tells (f (some .0)))
+          (rw (upto-at n f (f 0) (some .0) (some .1)) at
+          (all-at (λ (x : A). test x ≡ false) (f 0) (upto n f) (some .0) (rw (upto-length n f) (some .1)) none))
+          (some .2))
 
 -- ---- a walk that looks for it, over the list of a function's values
 module _ {A : Type 0} (test : A → Bool) (n : ℕ) (f : ℕ → A) where

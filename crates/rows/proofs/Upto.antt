@@ -5,9 +5,9 @@ use Prim.Native.Nat.{ℕ, zero, suc, _+_, _≤_, _<_}
 use native.Mathlib.Nat.{le-of-suc-le-suc, not-suc-le-zero}
 use native.Mathlib.Numerals.{add-one}
 use native.Mathlib.Omega.{arith}
-use lib.ListN.{length, getD, set, take, drop, drop-of-length-le}
-use lib.Seq.{set-at, drop-cons, append-snoc}
-use Rattle.rows.specs.Lists.{sumOf}
+use lib.ListN.{length, getD, set, take, drop, length-drop, drop-of-length-le}
+use lib.Seq.{set-at, drop-cons, append-snoc, getD-drop}
+use Rattle.rows.specs.Lists.{All, Pairs, sumOf}
 use Rattle.rows.specs.Upto.{upto, at}
 use Rattle.rows.proofs.Lists.{sum-append}
 
@@ -20,6 +20,17 @@ module _ {A : Type 0} where
   upto-at zero f d i h = absurd (not-suc-le-zero h)
   upto-at (suc n) f d zero h = refl
   upto-at (suc n) f d (suc i) h = upto-at n (λ k. f (suc k)) d i (le-of-suc-le-suc h)
+
+  pub upto-all : (P : A → Type 0) (n : ℕ) (f : ℕ → A) → ((i : ℕ) → i < n → P (f i)) → All P (upto n f)
+  upto-all P zero f h = tt
+  upto-all P (suc n) f h = (h 0 (omega arith), upto-all P n (λ i. f (suc i)) (λ i l. h (suc i) (omega arith)))
+
+  pub upto-pairs : (R : A → A → Type 0) (n : ℕ) (f : ℕ → A) → ((i k : ℕ) → i < k → k < n → R (f i) (f k)) → Pairs R (upto n f)
+  upto-pairs R zero f h = tt
+  upto-pairs R (suc n) f h = (
+    upto-all (R (f 0)) n (λ k. f (suc k)) (λ k l. h 0 (suc k) (omega arith) (omega arith)),
+    upto-pairs R n (λ i. f (suc i)) (λ i k l m. h (suc i) (suc k) (omega arith) (omega arith)),
+  )
 
   pub upto-same : (n : ℕ) (f g : ℕ → A) → ((i : ℕ) → i < n → f i ≡ g i) → upto n f ≡ upto n g
   upto-same zero f g h = refl
@@ -62,6 +73,10 @@ pub upto-take : (n : ℕ) (l : List ℕ) → n ≤ length l → upto n (λ i. at
 upto-take zero l h = refl
 upto-take (suc n) [] h = absurd (not-suc-le-zero h)
 upto-take (suc n) (x ∷ l) h = ap (λ (t : List ℕ). x ∷ t) (upto-take n l (le-of-suc-le-suc h))
+
+-- A part of a column, by its places.
+pub upto-part : (n k : ℕ) (l : List ℕ) → k + n ≤ length l → take n (drop k l) ≡ upto n (λ i. at l (k + i))
+upto-part n k l fits = sym (upto-take n (drop k l) (omega (arith, length-drop k l))) ∙ upto-same n _ _ (λ i _. getD-drop k l i 0)
 
 -- A walk over the list: what is left at place i, and that nothing is left at n.
 module _ {A : Type 0} (n : ℕ) (f : ℕ → A) where
