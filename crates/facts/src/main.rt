@@ -60,7 +60,7 @@ fn put_refused(refusal: Refusal) {
     put(b"refused ");
     put_number(model::number(refusal) as u64);
     put(b" ");
-    put_number(model::place(refusal) as u64);
+    put_number(model::place(refusal));
     put(b"\n");
 }
 

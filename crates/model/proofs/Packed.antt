@@ -1,9 +1,17 @@
--- A slice whose fields have their bytes is the slice of its number: each field is one of the number's digits, of one byte or two. Assumes nothing.
+-- A slice whose fields have their bytes is the slice of its number: each field is one of the number's digits, of one byte or two;
+-- and the slices inside a board that keeps its limits are such. Assumes nothing.
 use mathlib.Core.Path.{_≡_, refl}
-use Prim.Native.Nat.{ℕ, _+_, _*_, _/_, _%_, _<_}
+use mathlib.Core.List.{List}
+use Prim.Native.Nat.{ℕ, _+_, _*_, _/_, _%_, _≤_, _<_}
 use native.Mathlib.Omega.{arith}
+use Rattle.rows.specs.Lists.{All}
+use Rattle.rows.proofs.Lists.{all-map}
+use Rattle.model.specs.Board.{coresOf}
+use Rattle.model.specs.Limits.{windowMost, coresMost, jobsMost}
 use Rattle.model.specs.Packed.{kindNumber, packOf, kindOf, sliceIn}
 use Rattle.model.specs.Terms.{Narrow}
+use Rattle.model.specs.Timetable.{Inside}
+use Rattle.model.specs.declared.Board.{Board}
 use Rattle.model.specs.declared.Kind.{Kind}
 use Rattle.model.specs.declared.Kind.the-variants.{First, Second}
 use Rattle.model.specs.declared.Slice.{Slice}
@@ -33,3 +41,20 @@ packed-back s n = go (s .kind) refl
     go : (k : Kind) → s .kind ≡ k → sliceIn (s .job + 256 * kindNumber k + 65536 * s .core + 16777216 * s .start + 1099511627776 * s .length) ≡ s
     go First e = digits s n 1 (omega arith) (rw e)
     go Second e = digits s n 2 (omega arith) (rw e)
+
+module _ (board : Board) (short : board .window ≤ windowMost) (few1 : board .first ≤ coresMost) (few2 : board .second ≤ coresMost) where
+  cores-few : (k : Kind) → coresOf board k ≤ coresMost
+  cores-few First = few1
+  cores-few Second = few2
+
+  pub inside-narrow : (jobs : ℕ) → jobs ≤ jobsMost → (rows : List Slice) → All (Inside board jobs) rows → All Narrow rows
+  inside-narrow jobs few rows inside =
+      all-map (Inside board jobs) Narrow
+      (λ s i.
+      record {
+        job = omega (arith, i .job);
+        core = omega (arith, i .core, cores-few (s .kind));
+        start = omega (arith, i .ends, i .some);
+        length = omega (arith, i .ends);
+      })
+      rows inside

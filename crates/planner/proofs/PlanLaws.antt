@@ -9,6 +9,7 @@
 --   table-asks        what the code asks before it places them
 --   plan-shares       a plan is made of the shares that are given, and of their table
 --   plan-kept         a plan keeps demand 2
+--   columns-kept      so does a plan in columns, and it is of a lawful set
 use mathlib.Core.Path.{_≡_, refl, sym, ap, _∙_}
 use mathlib.Core.Bool.{Bool, true, false, cond, _||_}
 use mathlib.Core.List.{List, [], _∷_}
@@ -40,7 +41,7 @@ use Rattle.slices.specs.Table.{tableOf}
 use Rattle.slices.proofs.Counts.{table-few}
 use Rattle.slices.proofs.Timetabled.{table-timetable}
 use Rattle.planner.specs.Packing.{TableAsks}
-use Rattle.planner.specs.Plan.{Plan, Counts, planFrom, fitted, planOf, sharesGiven, slicesGiven, countsIn, saysPlanned}
+use Rattle.planner.specs.Plan.{Plan, Counts, planFrom, fitted, planOf, sharesGiven, slicesGiven, countsIn, saysPlanned, tooShort, columnsOf}
 use Rattle.planner.specs.Promise.{GoodPlan}
 use Rattle.planner.specs.declared.Planned.the-variants.{Plan as Counted}
 
@@ -145,3 +146,19 @@ module _ (board : Board) (n : ℕ) (js : List Job) where
     plan-kept {p} e =
         let made = plan-shares e in
         rw (made .1) (accepted-kept (p .shares) (shares-lawful (made .0)) (shares-accepted (made .0)))
+
+  pub columns-kept : (m1 m2 k : ℕ) {p : Plan} → columnsOf board n js m1 m2 k ≡ given p → Lawful board n js × GoodPlan board js (p .shares) (p .slices)
+  columns-kept m1 m2 k {p} e = go (sharesOf board n js) refl e
+    where
+      one : (ss : List Ticks) → sharesOf board n js ≡ given ss → (t : Bool) → cond t (refused 7 0) (given (planFrom board ss)) ≡ given p
+          → Lawful board n js × GoodPlan board js (p .shares) (p .slices)
+      one ss is true e = never (cc)
+      one ss is false e =
+          let same : _≡_ {A = Plan} p (planFrom board ss) = cc in
+          (shares-lawful is, rw same (accepted-kept ss (shares-lawful is) (shares-accepted is)))
+
+      go : (x : Answer (List Ticks)) → sharesOf board n js ≡ x
+          → andThen x (λ (ss : List Ticks). cond (tooShort m1 m2 k) (refused 7 0) (given (planFrom board ss))) ≡ given p
+          → Lawful board n js × GoodPlan board js (p .shares) (p .slices)
+      go (given ss) is e = one ss is (tooShort m1 m2 k) e
+      go (refused number place) is e = never (cc)

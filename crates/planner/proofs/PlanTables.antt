@@ -1,33 +1,26 @@
 -- The promise of `plan_tables`, from that of `plan_columns`: the rows that are read back from its columns are the plan's. One idea: its own
 -- columns are long enough for every set, so that only the tables can be too short. Assumes nothing.
---   inside-narrow   the slices of a plan have the bytes that their numbers have for them
 --   tables-filled   the promise
 use mathlib.Core.Path.{_≡_, refl, sym, ap, _∙_}
 use mathlib.Core.Bool.{Bool, true, false, cond, _||_}
 use mathlib.Core.List.{List, map}
-use Prim.Native.Nat.{ℕ, _≤_}
+use Prim.Native.Nat.{ℕ}
 use native.Mathlib.Omega.{arith}
 use borrow.Author.Tests.{ltb-false}
 use lib.Dec.{ltb}
 use lib.ListN.{length}
-use Rattle.rows.specs.Lists.{All, front}
+use Rattle.rows.specs.Lists.{front}
 use Rattle.rows.proofs.Never.{never}
-use Rattle.rows.proofs.Lists.{all-map}
-use Rattle.model.specs.Board.{coresOf}
-use Rattle.model.specs.Limits.{coresMost, jobsMost, slicesMost}
+use Rattle.model.specs.Limits.{jobsMost, slicesMost}
 use Rattle.model.specs.Packed.{packOf}
-use Rattle.model.specs.Terms.{Narrow}
 use Rattle.model.specs.Refusal.{Answer, given, refused, saysRefusal, andThen}
 use Rattle.model.specs.Split.{Ticks, ticksOn}
-use Rattle.model.specs.Timetable.{Inside}
-use Rattle.model.specs.declared.Kind.{Kind}
 use Rattle.model.specs.declared.Kind.the-variants.{First, Second}
 use Rattle.model.specs.declared.Board.{Board}
 use Rattle.model.specs.declared.Job.{Job}
 use Rattle.model.specs.declared.Refusal.{Refusal}
 use Rattle.model.specs.declared.Refusal.the-variants.{TooShort}
-use Rattle.model.specs.declared.Slice.{Slice}
-use Rattle.legal.specs.Lawful.{Lawful}
+use Rattle.model.proofs.Packed.{inside-narrow}
 use Rattle.split.specs.Shares.{sharesOf}
 use Rattle.slices.specs.Table.{tableOf}
 use Rattle.slices.proofs.Timetabled.{table-timetable}
@@ -41,23 +34,6 @@ use Rattle.planner.specs.declared.Tables.{Tables}
 use Rattle.planner.proofs.PlanLaws.{counts-are, shares-lawful, shares-fit, table-asks}
 use Rattle.planner.proofs.ColumnFronts.{shares-front, slices-front}
 use Rattle.planner.proofs.PlanColumns.{ticksAfter, slicesAfter}
-
-module _ (board : Board) (n : ℕ) (js : List Job) (law : Lawful board n js) where
-  cores-few : (k : Kind) → coresOf board k ≤ coresMost
-  cores-few First = law .first-most
-  cores-few Second = law .second-most
-
-  inside-narrow : (m : ℕ) → m ≤ jobsMost → (ls : List Slice) → All (Inside board m) ls → All Narrow ls
-  inside-narrow m few ls inside =
-      all-map (Inside board m) Narrow
-      (λ s i.
-      record {
-        job = omega (arith, i .job);
-        core = omega (arith, i .core, cores-few (s .kind));
-        start = omega (arith, i .ends, i .some, law .window-most);
-        length = omega (arith, i .ends, law .window-most);
-      })
-      ls inside
 
 module _ (board : Board) (n : ℕ) (js : List Job) (m k : ℕ) where
   filled-none : (r : Refusal) (s1′ s2′ rows′ : List ℕ) → saysRefusal r ≡ planOf board n js m k
@@ -111,7 +87,7 @@ module _ (board : Board) (n : ℕ) (js : List Job) (m k : ℕ) where
               shared = jobs-are ∙ sym (ap (λ (x : Answer Plan). length (sharesGiven x)) e);
               sliced = count-is ∙ sym (ap (λ (x : Answer Plan). length (slicesGiven x)) e);
               shares = rw (jobs-are, first, second) (shares-front ss _ _) ∙ sym (ap sharesGiven e);
-              slices = rw (count-is, slices) (slices-front (tableOf (board .window) ss) _ (inside-narrow board n js law (length ss) (asks .few) (tableOf (board .window) ss) inside)) ∙ sym (ap slicesGiven e);
+              slices = rw (count-is, slices) (slices-front (tableOf (board .window) ss) _ (inside-narrow board (law .window-most) (law .first-most) (law .second-most) (length ss) (asks .few) (tableOf (board .window) ss) inside)) ∙ sym (ap slicesGiven e);
               few-shares = omega (arith, asks .few);
               fit-shares = ltb-false _ _ a;
               few-slices = omega (arith, asks .rows);

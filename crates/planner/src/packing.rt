@@ -52,16 +52,6 @@ fn is_in(class: Class, w: u32, mine: u32, other: u32) -> bool
     }
 }
 
-// A kind's number in a slice.
-fn kind_number(kind: Kind) -> u64
-    ensures { λ r. ⌜ r ≡ on kind 1 2 ⌝ }
-{
-    match kind {
-        Kind::First => 1,
-        Kind::Second => 2,
-    }
-}
-
 // The first tick of a slice at a place of a core, which is counted from the window's start on the first kind, and from its end on the second.
 fn start_of(kind: Kind, w: u32, at: u32, length: u32) -> u32
     requires { ⌜ at + length ≤ w ⌝ }
@@ -79,9 +69,9 @@ fn slice_of(kind: Kind, w: u32, job: usize, core: u32, at: u32, length: u32) -> 
     ensures { λ r. ⌜ r ≡ packOf (sliceOf kind w job core at length) ⌝ }
 {
     let start = start_of(kind, w, at, length);
-    let number = kind_number(kind);
+    let number = model::kind_number(kind);
     (job as u64)
-        + 256 * number
+        + 256 * (number as u64)
         + 65536 * (core as u64)
         + 16777216 * (start as u64)
         + 1099511627776 * (length as u64)

@@ -7,7 +7,7 @@ ghost use lib.ListN.{length};
 ghost use lib.Seq.{sets};
 ghost use Rattle.model.specs.Columns.{sharesIn};
 ghost use Rattle.model.specs.Limits.{jobsMost, slicesMost};
-ghost use Rattle.model.specs.Packed.{kindNumber, sliceIn, slicesIn};
+ghost use Rattle.model.specs.Packed.{sliceIn, slicesIn};
 ghost use Rattle.model.specs.Split.{share};
 ghost use Rattle.model.specs.declared.Refusal.the-variants.{TooShort};
 ghost use Rattle.text.specs.Hex.{glyphOf, digitsOf, lineOf, textOf};
@@ -23,7 +23,6 @@ use super::records::SHARE_LINE;
 use super::records::SLICE;
 use super::records::SLICE_LINE;
 use model::JOBS_MOST;
-use model::Kind;
 use model::Refusal;
 use model::SLICES_MOST;
 
@@ -129,7 +128,7 @@ fn put_slice(packed: u64, text: &mut [u8], at: usize)
         &[
             SLICE,
             slice.job,
-            kind_byte(kind),
+            model::kind_number(kind),
             slice.core,
             high(start),
             low(start),
@@ -184,14 +183,4 @@ fn low(x: u16) -> u8
     ensures { λ r. ⌜ r ≡ x % 256 ⌝ }
 {
     (x % 256) as u8
-}
-
-// A kind, as it is written.
-fn kind_byte(kind: Kind) -> u8
-    ensures { λ r. ⌜ r ≡ kindNumber kind ⌝ }
-{
-    match kind {
-        Kind::First => 1,
-        Kind::Second => 2,
-    }
 }

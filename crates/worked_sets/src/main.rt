@@ -46,7 +46,7 @@ fn put_refusal(refusal: Refusal) {
     put(b"refusal ");
     put_number(model::number(refusal) as u64);
     put(b" at ");
-    put_number(model::place(refusal) as u64);
+    put_number(model::place(refusal));
 }
 
 fn put_share(first: u16, second: u16) {

@@ -22,6 +22,9 @@ kind-number-requires c κs = search needs
 number : (c : tie.After-kind-number) → c .kind-number .result ≤ 2
 number c = rw (c .kind-number .ensures) (number-most (c .before .before .args .kind))
 
+cast-result : tie.Need-cast-result
+cast-result c = search needs
+
 mul-result : tie.Need-mul-result
 mul-result c = omega (arith, number c)
 
@@ -34,8 +37,8 @@ mul-result-2 c = search needs
 add-result-2 : tie.Need-add-result-2
 add-result-2 c = omega (arith, number c)
 
-cast-result : tie.Need-cast-result
-cast-result c = search needs
+cast-result-2 : tie.Need-cast-result-2
+cast-result-2 c = search needs
 
 mul-result-3 : tie.Need-mul-result-3
 mul-result-3 c = search needs
@@ -59,11 +62,12 @@ slice-of-spec =
     (tie.spec
     start-of-requires
     kind-number-requires
+    cast-result
     mul-result
     add-result
     mul-result-2
     add-result-2
-    cast-result
+    cast-result-2
     mul-result-3
     add-result-3
     mul-result-4

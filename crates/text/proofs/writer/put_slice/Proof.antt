@@ -6,8 +6,8 @@ use Rattle.text.proofs.writer.put_slice.Tie as tie
 slice-in-requires : tie.Need-slice-in-requires
 slice-in-requires c κs = search needs
 
-kind-byte-requires : tie.Need-kind-byte-requires
-kind-byte-requires c κs = search needs
+kind-number-requires : tie.Need-kind-number-requires
+kind-number-requires c κs = search needs
 
 high-requires : tie.Need-high-requires
 high-requires c κs = search needs
@@ -38,7 +38,7 @@ put-slice-spec =
     tie.close
     (tie.spec
     slice-in-requires
-    kind-byte-requires
+    kind-number-requires
     high-requires
     low-requires
     high-requires-2
