@@ -14,7 +14,7 @@ use Rattle.model.specs.Split.{share}
 use Rattle.model.specs.declared.Kind.{Kind}
 use Rattle.model.specs.declared.Kind.the-variants.{First, Second}
 use Rattle.model.specs.declared.Slice.{Slice}
-use Rattle.legal.specs.Legal.{legalOf}
+use Rattle.legal.specs.Legal.{onBoard, legalOf}
 use Rattle.split.specs.Home.{atHome, keepOf, giveOf}
 use Rattle.split.specs.Steps.{better, nextFrom, movedOf, stepOf, stepsOf}
 use Rattle.split.specs.Shares.{settled, byOver}
@@ -35,7 +35,7 @@ slice job kind core start length = record { job = job; kind = kind; core = core;
 
 pub example-answered : answerText (bytes "01000a0101\n02000000000600000009\n02000000000600000008\n")
     ≡ bytes "100203\n110000060000\n110100040003\n1201010000000004\n1200010000040006\n1201020000070003\n"
-unfolding bytes linesOf nibbleOf pairsOf bytesOf numberFrom jobIn entryOf jobsFrom inputFrom inputOf lowest legalOf atHome keepOf giveOf better nextFrom movedOf roomOf
+unfolding bytes linesOf nibbleOf pairsOf bytesOf numberFrom jobIn entryOf jobsFrom inputFrom inputOf lowest legalOf onBoard atHome keepOf giveOf better nextFrom movedOf roomOf
     stepOf stepsOf settled byOver chosen piecesOf cutOf packed tableOf digitsOf textOf shareRecords
 example-answered = refl
 

@@ -14,7 +14,7 @@ use Rattle.model.specs.declared.Board.{Board}
 use Rattle.model.specs.declared.Job.{Job}
 use Rattle.model.proofs.BothSides.{B, F, S}
 use Rattle.legal.specs.Lawful.{LegalJob, Lawful}
-use Rattle.legal.specs.Legal.{legalOf}
+use Rattle.legal.specs.Legal.{onBoard, legalOf}
 
 -- ==== LegalJob: in a window of 10 and, for the greatest cost, in one that is longer than it
 pub first-least : LegalJob 10 (F 1)
@@ -98,29 +98,29 @@ lawful-last-not l = omega arith
 -- ==== The checks: each at its limit, and one past it on either side
 pub checks-window : map (λ (w : ℕ). legalOf (sized w 1 1) 0 []) (0 ∷ 1 ∷ 65535 ∷ 65536 ∷ [])
     ≡ refused 1 0 ∷ given tt ∷ given tt ∷ refused 1 0 ∷ []
-unfolding lowest legalOf
+unfolding lowest legalOf onBoard
 checks-window = refl
 
 pub checks-first : map (λ (m : ℕ). legalOf (sized 1 m 1) 0 []) (0 ∷ 1 ∷ 8 ∷ 9 ∷ []) ≡ refused 2 0 ∷ given tt ∷ given tt ∷ refused 2 0 ∷ []
-unfolding lowest legalOf
+unfolding lowest legalOf onBoard
 checks-first = refl
 
 pub checks-second : map (λ (m : ℕ). legalOf (sized 1 1 m) 0 []) (0 ∷ 1 ∷ 8 ∷ 9 ∷ []) ≡ refused 2 0 ∷ given tt ∷ given tt ∷ refused 2 0 ∷ []
-unfolding lowest legalOf
+unfolding lowest legalOf onBoard
 checks-second = refl
 
 pub checks-jobs : map (λ (n : ℕ). legalOf (sized 1 1 1) n []) (0 ∷ 64 ∷ 65 ∷ []) ≡ given tt ∷ given tt ∷ refused 3 64 ∷ []
-unfolding lowest legalOf
+unfolding lowest legalOf onBoard
 checks-jobs = refl
 
 -- Behind a job that is legal, so that the place is 1.
 pub checks-cost : map (λ (j : Job). legalOf (sized 10 1 1) 2 (F 1 ∷ j ∷ []))
     (F 0 ∷ F 10 ∷ S 1000001 ∷ B 1 0 ∷ B 10 1000000 ∷ B 1000001 10 ∷ [])
     ≡ refused 4 1 ∷ given tt ∷ refused 4 1 ∷ refused 4 1 ∷ given tt ∷ refused 4 1 ∷ []
-unfolding lowest legalOf
+unfolding lowest legalOf onBoard
 checks-cost = refl
 
 pub checks-long : map (λ (j : Job). legalOf (sized 10 1 1) 2 (F 1 ∷ j ∷ [])) (F 11 ∷ S 10 ∷ S 11 ∷ B 10 11 ∷ B 11 10 ∷ B 11 11 ∷ [])
     ≡ refused 5 1 ∷ given tt ∷ refused 5 1 ∷ given tt ∷ given tt ∷ refused 5 1 ∷ []
-unfolding lowest legalOf
+unfolding lowest legalOf onBoard
 checks-long = refl

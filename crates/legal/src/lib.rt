@@ -5,8 +5,9 @@ ghost use Prim.Native.Nat.{_≤_};
 ghost use Rattle.rows.specs.Lists.{lowest};
 ghost use Rattle.model.specs.Columns.{jobAt, jobsIn};
 ghost use Rattle.model.specs.Limits.{jobsMost};
+ghost use Rattle.model.specs.Refusal.{given};
 ghost use Rattle.legal.specs.Failing.{failsOf};
-ghost use Rattle.legal.specs.Legal.{outside, badCost, tooLong, legalOf, saysChecked};
+ghost use Rattle.legal.specs.Legal.{outside, onBoard, badCost, tooLong, legalOf, saysChecked};
 use model::Board;
 use model::CORES_MOST;
 use model::COST_MOST;
@@ -14,7 +15,7 @@ use model::JOBS_MOST;
 use model::Refusal;
 use model::WINDOW_MOST;
 
-// A set that passes the checks, or the refusal of the first check that it fails.
+// A set, or a board by itself, that passes its checks, or the refusal of the first that it fails.
 pub enum Checked {
     Legal,
     Refused(Refusal),
@@ -27,7 +28,7 @@ enum Test {
 }
 
 // Whether a number is outside 1 to `most`.
-fn is_outside(most: u32, x: u32) -> bool
+pub fn is_outside(most: u32, x: u32) -> bool
     ensures { λ r. ⌜ r ≡ outside most x ⌝ }
 {
     if x < 1 {
@@ -98,12 +99,11 @@ fn lowest_failing(
     i
 }
 
-// Checks 1 to 5 of the first `n` jobs of the columns. More than 64 can be asked for, and are refused.
-pub fn check(board: Board, first: &[u32; JOBS_MOST], second: &[u32; JOBS_MOST], n: usize) -> Checked
-    ensures { λ r. ⌜ saysChecked r ≡ legalOf board n (jobsIn n (now (first .entry)) (now (second .entry))) ⌝ }
+// Checks 1 and 2, of a board by itself.
+pub fn check_board(board: Board) -> Checked
+    ensures { λ r. ⌜ saysChecked r ≡ onBoard board (given tt) ⌝ }
 {
-    let w = board.window;
-    if is_outside(WINDOW_MOST, w) {
+    if is_outside(WINDOW_MOST, board.window) {
         return Checked::Refused(Refusal::Window);
     }
     if is_outside(CORES_MOST, board.first) {
@@ -112,9 +112,23 @@ pub fn check(board: Board, first: &[u32; JOBS_MOST], second: &[u32; JOBS_MOST], 
     if is_outside(CORES_MOST, board.second) {
         return Checked::Refused(Refusal::Cores);
     }
+    Checked::Legal
+}
+
+// Checks 1 to 5 of the first `n` jobs of the columns. More than 64 can be asked for, and are refused.
+pub fn check(board: Board, first: &[u32; JOBS_MOST], second: &[u32; JOBS_MOST], n: usize) -> Checked
+    ensures { λ r. ⌜ saysChecked r ≡ legalOf board n (jobsIn n (now (first .entry)) (now (second .entry))) ⌝ }
+{
+    match check_board(board) {
+        Checked::Refused(refusal) => {
+            return Checked::Refused(refusal);
+        }
+        Checked::Legal => {}
+    }
     if JOBS_MOST < n {
         return Checked::Refused(Refusal::TooManyJobs);
     }
+    let w = board.window;
     let bad = lowest_failing(Test::Cost, w, first, second, n);
     if bad < n {
         return Checked::Refused(Refusal::Cost(bad as u32));

@@ -17,7 +17,7 @@ use Rattle.model.specs.Split.{share}
 use Rattle.model.specs.declared.Board.{Board}
 use Rattle.model.specs.declared.Job.{Job}
 use Rattle.model.specs.declared.Job.the-variants.{Both, OnlyFirst, OnlySecond}
-use Rattle.legal.specs.Legal.{legalOf}
+use Rattle.legal.specs.Legal.{onBoard, legalOf}
 use Rattle.split.specs.Home.{atHome, keepOf, giveOf}
 use Rattle.split.specs.Shares.{settled, byOver}
 use Rattle.split.specs.Steps.{better, nextFrom, movedOf, stepOf, stepsOf}
@@ -39,11 +39,11 @@ jobs =
     ++ both 400 900 ∷ (replicate 24 (OnlyFirst (record { 0 = 10 })) ++ replicate 24 (OnlySecond (record { 0 = 5 })))
 
 pub most-slices : length (slicesGiven (planOf board jobsMost jobs jobsMost slicesMost)) ≡ slicesMost
-unfolding lowest legalOf atHome keepOf giveOf better nextFrom movedOf stepOf stepsOf settled byOver chosen piecesOf cutOf packed tableOf roomOf
+unfolding lowest legalOf onBoard atHome keepOf giveOf better nextFrom movedOf stepOf stepsOf settled byOver chosen piecesOf cutOf packed tableOf roomOf
 most-slices = refl
 
 pub most-movers : movers (sharesGiven (planOf (record { window = 10; first = 1; second = 1 }) 2 (both 8 11 ∷ both 9 13 ∷ []) 2 4)) ≡ 2
-unfolding lowest legalOf atHome keepOf giveOf better nextFrom movedOf stepOf stepsOf settled byOver chosen piecesOf cutOf packed tableOf roomOf
+unfolding lowest legalOf onBoard atHome keepOf giveOf better nextFrom movedOf stepOf stepsOf settled byOver chosen piecesOf cutOf packed tableOf roomOf
 most-movers = refl
 
 -- A board of two cores of each kind.
@@ -52,7 +52,7 @@ four = record { window = 10; first = 2; second = 2 }
 
 pub eight-moves : movesIn (roomyPlan four 4 (both 6 16 ∷ both 6 16 ∷ both 6 16 ∷ OnlyFirst (record { 0 = 8 }) ∷ []))
     ≡ moves 2 0 ∷ moves 2 1 ∷ moves 2 1 ∷ moves 0 0 ∷ []
-unfolding lowest legalOf atHome keepOf giveOf better nextFrom movedOf stepOf stepsOf settled byOver chosen piecesOf cutOf packed tableOf roomOf
+unfolding lowest legalOf onBoard atHome keepOf giveOf better nextFrom movedOf stepOf stepsOf settled byOver chosen piecesOf cutOf packed tableOf roomOf
     laterIf latest
 eight-moves = refl
 
@@ -62,6 +62,6 @@ restless = both 8 16 ∷ both 8 16 ∷ both 8 16 ∷ both 6 12 ∷ []
 pub most-moves : (sharesGiven (roomyPlan four 4 restless) ≡ share 6 4 ∷ share 6 4 ∷ share 6 4 ∷ share 2 8 ∷ [])
     × (movesIn (roomyPlan four 4 restless) ≡ moves 2 0 ∷ moves 2 1 ∷ moves 2 1 ∷ moves 2 0 ∷ [])
     × (sumOf (λ (m : Moves). m .outer + m .inner) (movesIn (roomyPlan four 4 restless)) + 2 ≡ 3 * (four .first + four .second))
-unfolding lowest legalOf atHome keepOf giveOf better nextFrom movedOf stepOf stepsOf settled byOver chosen piecesOf cutOf packed tableOf roomOf
+unfolding lowest legalOf onBoard atHome keepOf giveOf better nextFrom movedOf stepOf stepsOf settled byOver chosen piecesOf cutOf packed tableOf roomOf
     laterIf latest
 most-moves = (refl, refl, refl)

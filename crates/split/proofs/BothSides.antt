@@ -18,7 +18,7 @@ use Rattle.model.specs.Split.{share}
 use Rattle.model.specs.declared.Kind.the-variants.{First, Second}
 use Rattle.model.specs.declared.Job.{Job}
 use Rattle.model.proofs.BothSides.{board, B, F, S, two-shares}
-use Rattle.legal.specs.Legal.{legalOf}
+use Rattle.legal.specs.Legal.{onBoard, legalOf}
 use Rattle.split.specs.Home.{stretchedAt}
 use Rattle.split.specs.Promise.{smaller, Accepted, Demands, Exactly}
 
@@ -100,13 +100,13 @@ demands-given-not d = omega arith
 
 -- With no stretched job: both kinds exactly full, and the first over by one tick.
 pub exactly-refused-not : Exactly (board 1 1) 2 (F 10 ∷ S 10 ∷ []) (refused 6 0) → ⊥
-unfolding lowest legalOf stretchedAt roomOf
+unfolding lowest legalOf onBoard stretchedAt roomOf
 exactly-refused-not e =
     e refl refl refl .0 refl
     (record { whole = 1; some = omega arith; shares = share 10 0 ∷ share 0 10 ∷ []; done = omega arith; within1 = omega arith; within2 = omega arith })
 
 pub exactly-given-not : Exactly (board 1 1) 2 (F 10 ∷ F 1 ∷ []) (given (share 10 0 ∷ share 1 0 ∷ [])) → ⊥
-unfolding lowest legalOf stretchedAt roomOf
+unfolding lowest legalOf onBoard stretchedAt roomOf
 exactly-given-not e =
     let is = e refl refl refl .1 (λ s. omega (arith, two-shares s)) in
     let z : _≡_ {A = ℕ} 0 1 = cc in

@@ -14,7 +14,7 @@ use Rattle.model.specs.Split.{Ticks, share}
 use Rattle.model.specs.declared.Board.{Board}
 use Rattle.model.specs.declared.Job.{Job}
 use Rattle.model.proofs.BothSides.{board, B, F}
-use Rattle.legal.specs.Legal.{legalOf}
+use Rattle.legal.specs.Legal.{onBoard, legalOf}
 use Rattle.split.specs.Home.{atHome, keepOf, giveOf}
 use Rattle.split.specs.Promise.{SplitOn}
 use Rattle.split.specs.Shares.{settled, byOver, sharesOf}
@@ -54,7 +54,7 @@ table =
 
 -- Each row's answer is that of its set.
 pub table-right : map (λ (l : Line). sharesOf (board (l .first) (l .second)) (length (l .jobs)) (l .jobs)) table ≡ map (λ (l : Line). l .answer) table
-unfolding table lowest legalOf atHome keepOf giveOf better nextFrom movedOf stepOf stepsOf settled byOver roomOf
+unfolding table lowest legalOf onBoard atHome keepOf giveOf better nextFrom movedOf stepOf stepsOf settled byOver roomOf
 table-right = refl
 
 -- The set that is refused with 9 has a split on the whole board, in fifths of ticks ..
@@ -75,5 +75,5 @@ slack-needed =
 
 -- .. so that demand 3 without its slack is false.
 pub no-slack-false : ((board : Board) (n : ℕ) (js : List Job) → sharesOf board n js ≡ refused 6 0 → SplitOn board js → ⊥) → ⊥
-unfolding lowest legalOf atHome keepOf giveOf better nextFrom movedOf stepOf stepsOf settled byOver roomOf
+unfolding lowest legalOf onBoard atHome keepOf giveOf better nextFrom movedOf stepOf stepsOf settled byOver roomOf
 no-slack-false claim = claim (board 2 2) 4 (tight 9) refl slack-needed
