@@ -1,6 +1,8 @@
 -- The contracts of this crate determine their results: each is taken back from what it says, and every byte of a lent text is told.
 --   read ↦ read-once, the answer with both columns after the call
+--   cut_at ↦ cut-at-once
 --   write_plan ↦ write-plan-once, write_refusal ↦ write-refusal-once, the answer with the lent text after the call
+--   writtenOf, written-back   what an answer by number and place is taken back to; the crate of packed tables cites them too
 -- Assumes nothing.
 use mathlib.Core.List.{List}
 use mathlib.Core.Path.{_≡_, refl, sym, ap, _∙_}
@@ -14,6 +16,7 @@ use Rattle.text.specs.declared.Reading.{Reading}
 use Rattle.text.specs.declared.Reading.the-variants.{Set, Refused}
 use Rattle.text.specs.declared.Written.{Written}
 use Rattle.text.specs.declared.Written.the-variants.{Bytes, Refused as NotWritten}
+use Rattle.text.proofs.reader.cut_at
 use Rattle.text.proofs.reader.read
 use Rattle.text.proofs.writer.write_plan
 use Rattle.text.proofs.writer.write_refusal
@@ -32,10 +35,15 @@ read-once κs args r s p q =
     let answer : r .0 ≡ s .0 = said-once saysReading readingOf reading-back _ (r .0) (s .0) (p .says) (q .says) in
     λ i. (answer i, (tt, ((p .first ∙ sym (q .first)) i, ((p .second ∙ sym (q .second)) i, tt))))
 
-abbrev writtenOf : Answer ℕ → Written
+-- A line's cut: every field, also where it spells no bytes.
+pub cut-at-once : Determines cut_at.ended cut_at.Reads.Learnt
+cut-at-once κs args r s p q i =
+    (record { size = (p .size ∙ sym (q .size)) i; head = (p .head ∙ sym (q .head)) i; a = (p .a ∙ sym (q .a)) i; b = (p .b ∙ sym (q .b)) i; end = (p .end ∙ sym (q .end)) i }, r .1)
+
+abbrev pub writtenOf : Answer ℕ → Written
 writtenOf = answerOf Bytes NotWritten
 
-written-back : (r : Written) → writtenOf (saysWritten r) ≡ r
+pub written-back : (r : Written) → writtenOf (saysWritten r) ≡ r
 written-back (Bytes n) = refl
 written-back (NotWritten r) = ap NotWritten (refusal-back r)
 

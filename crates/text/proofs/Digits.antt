@@ -13,7 +13,8 @@ use lib.Seq.{drop-cons, drop-drop, length-take-le}
 use Rattle.rows.specs.Lists.{All}
 use Rattle.rows.proofs.Never.{never}
 use Rattle.text.specs.Hex.{Maybe, none, some, nibbleOf, byteOf, atFront, pairsOf, bytesOf, numberFrom, numberIn}
-use Rattle.text.specs.Reader.{lineLength, lineIn, isThere, valueOf, digitThen, digitsIn, hexFrom, hexIn, isEnd, Spells, headSize, costSize, headDigits, costDigits, Numbered, HoldsRecord}
+use Rattle.text.specs.Cut.{lineLength, lineIn, digitThen, digitsIn, hexFrom, hexIn, headSize, costSize, headDigits, costDigits}
+use Rattle.text.specs.Reader.{isThere, valueOf, isEnd, Spells, Numbered, HoldsRecord}
 use Rattle.text.specs.declared.reader.Numbers.{Numbers}
 use Rattle.text.specs.declared.reader.Run.{Run}
 use Rattle.text.proofs.Lines.{lineLength-fits}

@@ -1,46 +1,23 @@
 -- What a record says, by its first byte and its length. The idea: the tests of `entryOf` come out by what the code found. Assumes nothing.
-use mathlib.Core.Bool.{Bool, true, false, _&&_}
-use mathlib.Core.List.{List, [], _∷_}
+use mathlib.Core.Bool.{true, false}
+use mathlib.Core.List.{List}
 use mathlib.Core.Path.{_≡_, refl, sym, ap, _∙_}
 use Prim.Native.Nat.{ℕ, _+_, _*_, _/_, _%_, _<_}
 use native.Mathlib.Omega.{arith}
-use borrow.Author.Tests.{eq-eqb, eqb-true}
-use lib.Dec.{eqb}
-use lib.ListN.{length, take, drop, getD}
+use lib.ListN.{length, getD}
 use lib.Seq.{drop-drop}
-use Rattle.rows.specs.Lists.{All}
 use Rattle.rows.proofs.Never.{never}
 use Rattle.model.specs.Refusal.{Answer, given, refused, andThen}
 use Rattle.model.specs.declared.Board.{Board}
-use Rattle.text.specs.Hex.{Maybe, none, some, bytesOf, numberFrom, numberIn}
-use Rattle.text.specs.Records.{Form, boardForm, jobForm, sizeOf, isA, field}
-use Rattle.text.specs.Input.{boardIn, jobIn, entryJob, entryOf, recordSays, bytesSay, lineSays}
+use Rattle.text.specs.Hex.{Maybe, none, some, bytesOf}
+use Rattle.text.specs.Records.{boardForm, jobForm, sizeOf, isA, field}
+use Rattle.text.specs.Input.{jobIn, entryJob, entryOf, recordSays, bytesSay, lineSays}
 use Rattle.text.specs.Reader.{isThere, HoldsRecord}
 use Rattle.text.specs.declared.Entry.{Entry}
 use Rattle.text.specs.declared.Entry.the-variants.{OfBoard}
 use Rattle.text.specs.declared.reader.Numbers.{Numbers}
 use Rattle.text.proofs.Digits.{orEmpty, recordIn}
-
--- Whether bytes are a record of a form, by what the code finds out.
-module _ (f : Form) (bs : List ℕ) where
-  isA-so : getD bs 0 0 ≡ f .tag → length bs ≡ sizeOf f → isA f bs ≡ true
-  isA-so tag size = rw (eq-eqb _ _ tag, eq-eqb _ _ size)
-
-  isA-not : (getD bs 0 0 ≡ f .tag → length bs ≡ sizeOf f → ⊥) → isA f bs ≡ false
-  isA-not never = go (eqb (getD bs 0 0) (f .tag)) refl (eqb (length bs) (sizeOf f)) refl
-    where
-      go : (p : Bool) → eqb (getD bs 0 0) (f .tag) ≡ p → (q : Bool) → eqb (length bs) (sizeOf f) ≡ q → p && q ≡ false
-      go true e true g = absurd (never (eqb-true _ _ e) (eqb-true _ _ g))
-      go true e false g = refl
-      go false e q g = refl
-
--- The first two bytes.
-head-parts : (bs : List ℕ) → All (λ (b : ℕ). b < 256) bs → 1 < length bs
-    → (numberIn (take 2 bs) / 256 ≡ getD bs 0 0) × (numberIn (take 2 bs) % 256 ≡ numberIn (take 1 (drop 1 bs)))
-unfolding numberFrom
-head-parts [] small size = absurd (omega arith)
-head-parts (t ∷ []) small size = absurd (omega arith)
-head-parts (t ∷ b ∷ bs) small size = let l : b < 256 = small .1 .0 in (omega arith, omega arith)
+use Rattle.text.proofs.Forms.{isA-so, isA-not, head-parts, board-parts}
 
 -- What a record says, by its numbers.
 module _ (bs : List ℕ) (size : ℕ) (line : Numbers) (h : HoldsRecord bs size line) where
@@ -57,30 +34,11 @@ module _ (bs : List ℕ) (size : ℕ) (line : Numbers) (h : HoldsRecord bs size 
 
   pub holds-board : size ≡ sizeOf boardForm → line .head / 256 ≡ boardForm .tag
       → entryOf bs ≡ some (OfBoard (record { window = line .head % 256 * 256 + line .a / 65536 % 256; first = line .a / 256 % 256; second = line .a % 256 }))
-  unfolding entryOf numberFrom
+  unfolding entryOf
   holds-board e tag =
       let n : length bs ≡ sizeOf boardForm = sym (h .size-is) ∙ e in
       let is-board : isA boardForm bs ≡ true = isA-so boardForm bs (sym (tag-is (omega arith)) ∙ tag) n in
-      rw (is-board, h .head, h .a) (ap (λ (b : Board). some (OfBoard b)) (fields bs n (h .small)))
-    where
-      fields : (bs : List ℕ) → length bs ≡ sizeOf boardForm → All (λ (b : ℕ). b < 256) bs
-          → _≡_ {A = Board} (boardIn bs)
-          (record { window = numberIn (take 2 bs) % 256 * 256 + numberIn (take 4 (drop 2 bs)) / 65536 % 256; first = numberIn (take 4 (drop 2 bs)) / 256 % 256; second = numberIn (take 4 (drop 2 bs)) % 256 })
-      fields [] n small = absurd (omega arith)
-      fields (t ∷ []) n small = absurd (omega arith)
-      fields (t ∷ b1 ∷ []) n small = absurd (omega arith)
-      fields (t ∷ b1 ∷ b2 ∷ []) n small = absurd (omega arith)
-      fields (t ∷ b1 ∷ b2 ∷ b3 ∷ []) n small = absurd (omega arith)
-      fields (t ∷ b1 ∷ b2 ∷ b3 ∷ b4 ∷ b5 ∷ bs) n small = absurd (omega arith)
-      fields (t ∷ b1 ∷ b2 ∷ b3 ∷ b4 ∷ []) n small =
-          let s1 : b1 < 256 = small .1 .0 in
-          let s2 : b2 < 256 = small .1 .1 .0 in
-          let s3 : b3 < 256 = small .1 .1 .1 .0 in
-          let s4 : b4 < 256 = small .1 .1 .1 .1 .0 in
-          let window : numberIn (b1 ∷ b2 ∷ []) ≡ numberIn (t ∷ b1 ∷ []) % 256 * 256 + numberIn (b2 ∷ b3 ∷ b4 ∷ []) / 65536 % 256 = omega arith in
-          let first : numberIn (b3 ∷ []) ≡ numberIn (b2 ∷ b3 ∷ b4 ∷ []) / 256 % 256 = omega arith in
-          let second : numberIn (b4 ∷ []) ≡ numberIn (b2 ∷ b3 ∷ b4 ∷ []) % 256 = omega arith in
-          λ i. record { window = window i; first = first i; second = second i }
+      rw (is-board, h .head, h .a) (ap (λ (b : Board). some (OfBoard b)) (board-parts bs n (h .small)))
 
   pub holds-none : (size ≡ sizeOf jobForm → line .head / 256 ≡ jobForm .tag → ⊥) → (size ≡ sizeOf boardForm → line .head / 256 ≡ boardForm .tag → ⊥)
       → entryOf bs ≡ none

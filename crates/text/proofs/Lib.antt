@@ -5,14 +5,20 @@
 pub mod Lines
 -- The digits of a line, and the bytes that they spell.
 mod Digits
+-- A line that is cut, for a crate that reads other records.
+pub mod Cuts
+-- Which record those bytes are, by the numbers of the cut.
+pub mod Forms
 -- What the record of those bytes says.
 mod Entries
+-- What lines give, one behind the other.
+pub mod Answers
 -- The reader's loop over the lines of jobs.
 mod LineByLine
 -- The columns that it fills.
 mod Lent
--- Bytes that are stored one behind the other.
-mod Stores
+-- Bytes that are stored one behind the other. The crate of packed tables cites it too.
+pub mod Stores
 -- The text of a plan, which is stored so.
 pub mod PlanText
 -- What is written is read back: what a text was written from. No promise needs it; clampfern's page of demands does.

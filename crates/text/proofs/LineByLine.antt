@@ -21,27 +21,12 @@ use Rattle.text.specs.Input.{lineSays, asJob, jobsFrom}
 use Rattle.text.specs.Reader.{isThere, Costs, costsSaid}
 use Rattle.text.specs.declared.Entry.{Entry}
 use Rattle.text.specs.declared.Entry.the-variants.{OfBoard, OfJob}
+use Rattle.text.proofs.Answers.{onto, onto-none, onto-more, andThen-assoc}
 use Rattle.text.proofs.Entries.{given-there}
-
--- Jobs behind others.
-abbrev onto : List Job → Answer (List Job) → Answer (List Job)
-onto front a = andThen a (λ (js : List Job). given (front ++ js))
 
 -- The job of line i, where n were read.
 abbrev jobSays : (i n : ℕ) → List ℕ → Answer Job
 jobSays i n line = andThen (lineSays i line) (asJob i n)
-
-onto-none : (a : Answer (List Job)) → onto [] a ≡ a
-onto-none (given js) = refl
-onto-none (refused k p) = refl
-
-onto-more : (front : List Job) (j : Job) (a : Answer (List Job)) → onto front (andThen a (λ (js : List Job). given (j ∷ js))) ≡ onto (front ++ (j ∷ [])) a
-onto-more front j (given js) = rw append-assoc
-onto-more front j (refused k p) = refl
-
-andThen-assoc : {A B D : Type 0} (a : Answer A) (f : A → Answer B) (g : B → Answer D) → andThen a (λ (x : A). andThen (f x) g) ≡ andThen (andThen a f) g
-andThen-assoc (given x) f g = refl
-andThen-assoc (refused k p) f g = refl
 
 jobsFrom-line : (i n : ℕ) (line : List ℕ) (lines : List (List ℕ))
     → jobsFrom i n (line ∷ lines) ≡ andThen (jobSays i n line) (λ (j : Job). andThen (jobsFrom (i + 1) (n + 1) lines) (λ (js : List Job). given (j ∷ js)))
@@ -138,7 +123,7 @@ module _ (text : List ℕ) (from : ℕ) (c1 c2 : List ℕ) (n at : ℕ) (turn : 
           let few : n < jobsMost = turn-few a b h in
           let next : n + 1 + 2 ≡ n + 2 + 1 = omega arith in
           let r = row a b h in
-          let all = sym (onto-more (turn .jobs) (r .job) (jobsFrom (n + 2 + 1) (n + 1) (linesOf (drop (end + 1) text)))) ∙ (rw (first-line, r .is) at (turn .all)) in
+          let all = sym (onto-more (turn .jobs) (r .job ∷ []) (jobsFrom (n + 2 + 1) (n + 1) (linesOf (drop (end + 1) text)))) ∙ (rw (first-line, r .is) at (turn .all)) in
           record {
             jobs = turn .jobs ++ (r .job ∷ []);
             count = length-append (turn .jobs) (r .job ∷ []) ∙ ap (λ (m : ℕ). m + 1) (turn .count);

@@ -9,7 +9,7 @@ use lib.Dec.{eqb}
 use lib.ListN.{length, take, drop, getD}
 use lib.Seq.{drop-cons, drop-drop}
 use Rattle.text.specs.Hex.{linesOf, joined}
-use Rattle.text.specs.Reader.{lineLength, lineIn}
+use Rattle.text.specs.Cut.{lineLength, lineIn}
 
 -- A line ends within its text.
 pub lineLength-fits : (bs : List ℕ) → lineLength bs ≤ length bs

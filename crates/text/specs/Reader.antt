@@ -1,18 +1,8 @@
 -- Internal: no public promise cites this. What the reader's functions promise each other.
---   lineLength   how many bytes a text's first line has
---   lineIn       a text's first line, without its line feed
 --   isThere      whether nothing is missing
 --   valueOf      a digit's value as the code has it: 16 where there is none
---   digitThen    a digit's value at the front of others; a byte that is no digit ends them
---   digitsIn     the values of the digits that a text begins with
---   hexFrom      the number that digits spell behind a number
---   hexIn        the number that digits spell, the high digit first
 --   isEnd        whether a line ends here: at the end of the text, or at a line feed
 --   Spells       a run of digits, as many as are asked for or as there are: its number, and where it ends
---   headSize     the bytes of a job before its costs
---   costSize     the bytes of a cost
---   headDigits   the digits of those before the costs
---   costDigits   the digits of a cost
 --   Numbered     the numbers of a line's digits, cut as those of a job are, and where they end
 --   HoldsRecord  the numbers of a record of so many bytes, cut as a job is
 --   saysLine     what the code's answer on a line says
@@ -23,21 +13,21 @@
 --   setFrom      what the lines after the board's give
 --   GivesIn      an answer of the code that says what a set gives, as columns of their lengths get it
 -- Assumes nothing.
-use mathlib.Core.Bool.{Bool, true, false, cond}
+use mathlib.Core.Bool.{Bool, true, false}
 use mathlib.Core.List.{List, [], _∷_}
 use mathlib.Core.Path.{_≡_}
-use Prim.Native.Nat.{ℕ, suc, _+_, _*_, _<_}
+use Prim.Native.Nat.{ℕ, _+_, _<_}
 use lib.Dec.{eqb}
-use lib.ListN.{length, take, drop, getD}
+use lib.ListN.{length, take, drop}
 use Rattle.rows.specs.Lists.{All}
 use Rattle.model.specs.Columns.{costOn}
 use Rattle.model.specs.Refusal.{Answer, given, refused, saysRefusal, andThen}
 use Rattle.model.specs.declared.Board.{Board}
 use Rattle.model.specs.declared.Job.{Job}
 use Rattle.model.specs.declared.Kind.the-variants.{First, Second}
-use Rattle.text.specs.Hex.{Maybe, none, some, nibbleOf, numberIn}
-use Rattle.text.specs.Records.{jobForm}
+use Rattle.text.specs.Hex.{Maybe, none, some, numberIn}
 use Rattle.text.specs.Input.{Input, entryOf, recordSays, jobsFrom, inColumns, Gives}
+use Rattle.text.specs.Cut.{hexIn, headSize, costSize, headDigits, costDigits}
 use Rattle.text.specs.declared.Entry.{Entry}
 use Rattle.text.specs.declared.Reading.{Reading}
 use Rattle.text.specs.declared.reader.Line.{Line}
@@ -47,13 +37,6 @@ use Rattle.text.specs.declared.reader.Row.{Row}
 use Rattle.text.specs.declared.reader.Row.the-variants.{Holds, Refused as BadRow}
 use Rattle.text.specs.declared.reader.Run.{Run}
 
-unfoldable pub lineLength : List ℕ → ℕ
-lineLength [] = 0
-lineLength (b ∷ bs) = cond (eqb b 10) 0 (suc (lineLength bs))
-
-abbrev pub lineIn : List ℕ → List ℕ
-lineIn text = take (lineLength text) text
-
 abbrev pub isThere : {A : Type 0} → Maybe A → Bool
 isThere none = false
 isThere (some a) = true
@@ -62,21 +45,6 @@ abbrev pub valueOf : Maybe ℕ → ℕ
 valueOf none = 16
 valueOf (some x) = x
 
-abbrev pub digitThen : Maybe ℕ → List ℕ → List ℕ
-digitThen none ds = []
-digitThen (some x) ds = x ∷ ds
-
-unfoldable pub digitsIn : List ℕ → List ℕ
-digitsIn [] = []
-digitsIn (b ∷ bs) = digitThen (nibbleOf b) (digitsIn bs)
-
-unfoldable pub hexFrom : ℕ → List ℕ → ℕ
-hexFrom n [] = n
-hexFrom n (d ∷ ds) = hexFrom (16 * n + d) ds
-
-abbrev pub hexIn : List ℕ → ℕ
-hexIn ds = hexFrom 0 ds
-
 abbrev pub isEnd : List ℕ → Bool
 isEnd [] = true
 isEnd (b ∷ bs) = eqb b 10
@@ -84,18 +52,6 @@ isEnd (b ∷ bs) = eqb b 10
 pub record Spells (ds : List ℕ) (from most : ℕ) (r : Run) : Type 0 where
   pub value : r .value ≡ hexIn (take most ds)
   pub end : r .end ≡ from + length (take most ds)
-
-abbrev pub headSize : ℕ
-headSize = 1 + getD (jobForm .widths) 0 0
-
-abbrev pub costSize : ℕ
-costSize = getD (jobForm .widths) 1 0
-
-abbrev pub headDigits : ℕ
-headDigits = 2 * headSize
-
-abbrev pub costDigits : ℕ
-costDigits = 2 * costSize
 
 pub record Numbered (ds : List ℕ) (from : ℕ) (line : Numbers) : Type 0 where
   pub head : line .head ≡ hexIn (take headDigits ds)

@@ -9,7 +9,9 @@ ghost use Rattle.model.specs.Limits.{jobsMost};
 ghost use Rattle.model.specs.Refusal.{andThen};
 ghost use Rattle.text.specs.Hex.{linesOf, nibbleOf, bytesOf};
 ghost use Rattle.text.specs.Input.{jobIn, entryJob, recordSays, lineSays, asJob, short, Reads};
-ghost use Rattle.text.specs.Reader.{lineIn, isThere, valueOf, digitsIn, isEnd, Spells, Numbered, SaysRecord, saysLine, saysRow, costsSaid, setFrom, GivesIn};
+ghost use Rattle.text.specs.Cut.{lineIn, digitsIn, CutAt};
+ghost use Rattle.text.specs.Reader.{isThere, valueOf, isEnd, Spells, Numbered, SaysRecord, saysLine, saysRow, costsSaid, setFrom, GivesIn};
+use super::Cut;
 use super::Entry;
 use super::Reading;
 use super::records::BOARD;
@@ -142,6 +144,25 @@ fn is_line(text: &[u8], from: usize, end: usize) -> bool
         return false;
     }
     (end - from) % 2 == 0
+}
+
+// The line that starts at `from`, whatever its record.
+pub fn cut_at(text: &[u8], from: usize) -> Cut
+    ensures { λ r. ⌜ CutAt (drop from (now (text .entry))) from r ⌝ }
+{
+    let line = line_at(text, from);
+    let end = line.end;
+    let mut size: usize = 0;
+    if is_line(text, from, end) {
+        size = (end - from) / 2;
+    }
+    Cut {
+        size,
+        head: line.head,
+        a: line.a,
+        b: line.b,
+        end,
+    }
 }
 
 // A job by its allowed byte. The cost of a kind that is not allowed has to be 0.

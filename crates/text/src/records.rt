@@ -18,15 +18,15 @@ pub const JOB_SIZE: usize = HEAD_SIZE + 2 * COST_SIZE;
 
 pub const COUNTS: u8 = 0x10;
 
-const COUNTS_SIZE: usize = 3;
+pub const COUNTS_SIZE: usize = 3;
 
 pub const SHARE: u8 = 0x11;
 
-const SHARE_SIZE: usize = 6;
+pub const SHARE_SIZE: usize = 6;
 
 pub const SLICE: u8 = 0x12;
 
-const SLICE_SIZE: usize = 8;
+pub const SLICE_SIZE: usize = 8;
 
 pub const REFUSAL: u8 = 0x1f;
 

@@ -4,7 +4,7 @@ use Prim.Native.Nat.{_+_, _-_}
 use native.Mathlib.Omega.{arith}
 use borrow.Author.Needs.{needs}
 use lib.ListN.{length, drop}
-use Rattle.text.specs.Reader.{digitsIn}
+use Rattle.text.specs.Cut.{digitsIn}
 use Rattle.text.proofs.Digits.{digits-out, digits-none, digits-one}
 use Rattle.text.proofs.reader.digits_end.Statement.{statement}
 use Rattle.text.proofs.reader.digits_end.Tie as tie

@@ -7,7 +7,8 @@ use borrow.Author.Needs.{needs}
 use borrow.Author.Tests.{not-true, not-false}
 use lib.ListN.{length, drop}
 use lib.Seq.{drop-drop}
-use Rattle.text.specs.Reader.{digitsIn, isEnd}
+use Rattle.text.specs.Cut.{digitsIn}
+use Rattle.text.specs.Reader.{isEnd}
 use Rattle.text.proofs.Digits.{no-end-none, no-digit-none, end-even}
 use Rattle.text.proofs.reader.is_line.Statement.{statement}
 use Rattle.text.proofs.reader.is_line.Tie as tie

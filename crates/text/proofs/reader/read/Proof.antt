@@ -12,7 +12,8 @@ use Rattle.model.specs.Refusal.{refused, andThen}
 use Rattle.model.specs.declared.Board.{Board}
 use Rattle.text.specs.Hex.{linesOf}
 use Rattle.text.specs.Input.{lineSays, asBoard, inputFrom, inputOf}
-use Rattle.text.specs.Reader.{lineLength, lineIn, saysLine, setFrom}
+use Rattle.text.specs.Cut.{lineLength, lineIn}
+use Rattle.text.specs.Reader.{saysLine, setFrom}
 use Rattle.text.specs.declared.Entry.{Entry}
 use Rattle.text.proofs.Digits.{digits-fit, line-ends}
 use Rattle.text.proofs.Lent.{gives-refused, gives-as}

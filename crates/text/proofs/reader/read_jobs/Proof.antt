@@ -9,7 +9,8 @@ use lib.ListN.{length, drop, length-drop}
 use Rattle.model.specs.Limits.{jobsMost}
 use Rattle.model.specs.Refusal.{given, andThen}
 use Rattle.text.specs.Input.{lineSays, asJob, short}
-use Rattle.text.specs.Reader.{lineLength, lineIn, costsSaid}
+use Rattle.text.specs.Cut.{lineLength, lineIn}
+use Rattle.text.specs.Reader.{costsSaid}
 use Rattle.text.proofs.Digits.{digits-fit, line-ends}
 use Rattle.text.proofs.Lent.{enough, gives-refused, gives-short, gives-set}
 use Rattle.text.proofs.Lines.{linesOf-at}

@@ -8,7 +8,8 @@ use native.Mathlib.Omega.{arith}
 use borrow.Author.Needs.{needs}
 use lib.ListN.{length, take, drop}
 use lib.Seq.{take-nil}
-use Rattle.text.specs.Reader.{digitsIn, hexFrom, hexIn, Spells}
+use Rattle.text.specs.Cut.{digitsIn, hexFrom, hexIn}
+use Rattle.text.specs.Reader.{Spells}
 use Rattle.text.proofs.Digits.{digits-out, digits-none, digits-one}
 use Rattle.text.proofs.reader.run_of.Statement.{statement}
 use Rattle.text.proofs.reader.run_of.Tie as tie
