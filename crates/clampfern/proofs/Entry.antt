@@ -1,5 +1,5 @@
--- The count that the C entry gives, from what was written. Assumes nothing.
-use mathlib.Core.Path.{_≡_, sym, _∙_}
+-- The counts that the C entries give, from what was written. Assumes nothing.
+use mathlib.Core.Path.{_≡_, refl, sym, ap, _∙_}
 use mathlib.Core.Bool.{Bool, true, false, cond}
 use mathlib.Core.List.{List, _++_}
 use Prim.Native.Nat.{ℕ, _≤_}
@@ -7,12 +7,15 @@ use borrow.Author.Tests.{le-ltb}
 use lib.Dec.{ltb}
 use lib.ListN.{length, drop}
 use Rattle.rows.proofs.Never.{never}
-use Rattle.model.specs.Refusal.{given, refused}
+use Rattle.model.specs.Refusal.{Answer, given, refused}
 use Rattle.model.specs.declared.Refusal.the-variants.{TooShort}
 use Rattle.text.specs.Output.{saysWritten, Writes}
 use Rattle.text.specs.declared.Written.{Written}
 use Rattle.text.specs.declared.Written.the-variants.{Bytes, Refused}
+use Rattle.packed.specs.Packed.{laid}
+use Rattle.kernel.specs.Handed.{Handed, handedOf, PacksFor}
 use Rattle.clampfern.specs.Answer.{answerText, Entered}
+use Rattle.clampfern.specs.Tick.{countIn, packsFor, bytesFor, PackedBytes}
 
 abbrev pub bytesOf : Written → ℕ
 bytesOf (Bytes n) = n
@@ -37,3 +40,18 @@ pub entered-whole : {text before after : List ℕ} {size : ℕ} → Entered text
 entered-whole {text} {before} e fits =
     let tested : ltb (length before) (length (answerText text)) ≡ false = le-ltb _ _ fits in
     (rw tested at (e .count), rw tested at (e .text))
+
+-- What packing for C gives, from what packing promises.
+pub packed-entered : {lines before after : List ℕ} (r : Written) {n : ℕ} → bytesOf r ≡ n → PacksFor (handedOf lines) before after r
+    → PackedBytes lines before after n
+packed-entered {lines} {before} {after} r {n} e packs =
+    let put = go (handedOf lines) packs in
+    record { count = sym e ∙ counted r ∙ ap countIn (put .0); bytes = put .1 }
+  where
+    counted : (w : Written) → bytesOf w ≡ countIn (saysWritten w)
+    counted (Bytes n) = refl
+    counted (Refused r) = refl
+
+    go : (x : Answer Handed) → PacksFor x before after r → (saysWritten r ≡ packsFor x before) × (after ≡ laid (packsFor x before) (bytesFor x) before)
+    go (given h) p = (p .says, p .bytes)
+    go (refused number place) p = p

@@ -2,6 +2,8 @@
 --
 -- The three demands of every answer, in their own words, from the promises and nothing else.
 mod Demands
+-- The tick handler on the lines of an answer, from the promises too.
+mod Ticks
 -- What the page of demands rests on. The size of every answer.
 mod Size
 -- The answer to a text, and what it says.
@@ -16,10 +18,20 @@ mod Says
 mod ReadBack
 -- The bounds of an accepted plan, by which they are.
 mod Bounds
+-- The lines of a plan behind the line of its board, read back by the handler's rules.
+mod HandedBack
+-- The numbers of the handler's answers.
+mod Codes
+-- How many rows lines can hold.
+mod HandedFew
+-- The numbers where a table holds a timetable.
+mod TableCodes
+-- The ways of packing lines.
+mod Packing
 --
 -- What the functions' proofs cite: the lines of what was read and planned.
 mod Lines
--- The count that the C entry gives.
+-- The counts that the C entries give.
 mod Entry
 --
 -- Each promise allows one result alone. No promise needs it.

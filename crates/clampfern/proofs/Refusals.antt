@@ -134,7 +134,7 @@ abbrev Within : ℕ → Answer (List Job) → Type 0
 Within n (given js) = n + length js ≤ jobsMost
 Within n (refused number place) = Unit {0}
 
-after : {A B : Type 0} (Q : Answer B → Type 0) → ((number place : ℕ) → Q (refused number place)) → (x : Answer A) (f : A → Answer B)
+pub after : {A B : Type 0} (Q : Answer B → Type 0) → ((number place : ℕ) → Q (refused number place)) → (x : Answer A) (f : A → Answer B)
     → ((a : A) → x ≡ given a → Q (f a)) → Q (andThen x f)
 after Q none-told (given a) f then = then a refl
 after Q none-told (refused number place) f then = none-told number place

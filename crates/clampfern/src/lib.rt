@@ -1,4 +1,4 @@
-// The planner from text to text, and its C entry: the library that users link (include/clampfern.h).
+// The planner from text to text, and its C entry: the library that users link (include/clampfern.h). entries.rt has those of the tick handler.
 ghost use Prim.Native.Nat.{_<_};
 ghost use Rattle.model.specs.Columns.{jobsIn};
 ghost use Rattle.model.specs.Limits.{jobsMost, slicesMost};
@@ -7,6 +7,12 @@ ghost use Rattle.model.specs.declared.Refusal.the-variants.{TooShort};
 ghost use Rattle.planner.specs.Plan.{planOf};
 ghost use Rattle.text.specs.Output.{refusedText, Writes};
 ghost use Rattle.clampfern.specs.Answer.{linesFor, answerText, Entered, Answered};
+
+mod entries;
+
+pub use entries::clampfern_pack;
+pub use entries::clampfern_packed_tick;
+pub use entries::clampfern_tick;
 use model::Board;
 use model::JOBS_MOST;
 use model::Refusal;
