@@ -1,10 +1,11 @@
 #!/usr/bin/env bash
-# The independent planner's own tests: the sets and texts that the rules name, its checker, its test of splits in fractions, its generator. Each file
-# of independent/tests must have run some, none may be left out, and in all there must be as many as there were when this was written.
+# The independent planner's own tests: the sets and texts that the rules name, its checker, its test of splits in fractions, its generator, its tick
+# handler. Each file of independent/tests must have run some, none may be left out, and in all there must be as many as there were when this was
+# written.
 set -u -o pipefail
 cd "$(dirname "$0")/../independent" || exit 2
 log=$(cargo test --release --offline --color never 2>&1) || { printf '%s\n' "$log" && exit 1; }
-printf '%s\n' "$log" | awk -v least=47 -v files="$(echo tests/*.rs)" '
+printf '%s\n' "$log" | awk -v least=82 -v files="$(echo tests/*.rs)" '
     function wrong(what) { print what; bad = 1 }
     $1 == "Running" { file = $2 }
     /^test result: / {

@@ -51,17 +51,13 @@ impl fmt::Display for Facts {
             }
             Facts::NoRoom { balance, refusal } => {
                 write_balance(f, balance)?;
-                write_refusal(f, refusal)
+                writeln!(f, "{refusal}")
             }
-            Facts::Refused(refusal) => write_refusal(f, refusal),
+            Facts::Refused(refusal) => writeln!(f, "{refusal}"),
         }
     }
 }
 
 fn write_balance(f: &mut fmt::Formatter, balance: &PerKind) -> fmt::Result {
     writeln!(f, "balance {} {}", balance.first, balance.second)
-}
-
-fn write_refusal(f: &mut fmt::Formatter, refusal: &Refusal) -> fmt::Result {
-    writeln!(f, "refused {} {}", refusal.reason.number(), refusal.place)
 }

@@ -1,10 +1,12 @@
 //! The texts that two planners are compared on, in families: the named sets,
-//! all small sets of a range, and the generator's texts.
+//! all small sets of a range, the generator's texts, and the lines of plans that
+//! two tick handlers are asked with.
 
 mod named;
 mod small;
 
 use std::fmt;
+use std::ops::Range;
 
 use crate::gen;
 
@@ -12,37 +14,58 @@ use crate::gen;
 pub enum Family {
     Named,
     Small,
-    /// `count` texts of the generator's stream `seed`, from index `from` on.
-    Random {
-        seed: u64,
-        count: u64,
-        from: u64,
-    },
+    Random(Stream),
+    Lines(Stream),
+}
+
+/// `count` texts of the generator's stream `seed`, from index `from` on.
+#[derive(Clone, Copy, Debug, PartialEq, Eq)]
+pub struct Stream {
+    pub seed: u64,
+    pub count: u64,
+    pub from: u64,
+}
+
+impl Stream {
+    /// A stream by its words: `SEED COUNT [FROM]`.
+    fn parse(words: &[&str]) -> Option<Stream> {
+        let number = |word: &str| word.parse().ok();
+        let (seed, count, from) = match *words {
+            [seed, count] => (seed, count, "0"),
+            [seed, count, from] => (seed, count, from),
+            _ => return None,
+        };
+        Some(Stream {
+            seed: number(seed)?,
+            count: number(count)?,
+            from: number(from)?,
+        })
+    }
+
+    pub fn indices(self) -> Range<u64> {
+        self.from..self.from + self.count
+    }
 }
 
 impl Family {
-    /// A family by its words: `named`, `small`, or `gen SEED COUNT [FROM]`.
+    /// A family by its words: `named`, `small`, `gen SEED COUNT [FROM]`, or
+    /// `lines SEED COUNT [FROM]`.
     pub fn parse(words: &[&str]) -> Option<Family> {
-        let number = |word: &str| word.parse().ok();
-        match *words {
+        match words {
             ["named"] => Some(Family::Named),
             ["small"] => Some(Family::Small),
-            ["gen", seed, count] => Family::parse(&["gen", seed, count, "0"]),
-            ["gen", seed, count, from] => Some(Family::Random {
-                seed: number(seed)?,
-                count: number(count)?,
-                from: number(from)?,
-            }),
+            ["gen", stream @ ..] => Stream::parse(stream).map(Family::Random),
+            ["lines", stream @ ..] => Stream::parse(stream).map(Family::Lines),
             _ => None,
         }
     }
 
     /// The indices of its texts.
-    pub fn indices(self) -> std::ops::Range<u64> {
+    pub fn indices(self) -> Range<u64> {
         match self {
             Family::Named => 0..named::count(),
             Family::Small => 0..small::count(),
-            Family::Random { count, from, .. } => from..from + count,
+            Family::Random(stream) | Family::Lines(stream) => stream.indices(),
         }
     }
 
@@ -50,7 +73,16 @@ impl Family {
         match self {
             Family::Named => named::text(index),
             Family::Small => small::text(index),
-            Family::Random { seed, .. } => gen::text(seed, index),
+            Family::Random(stream) => gen::text(stream.seed, index),
+            Family::Lines(stream) => gen::query(stream.seed, index).lines,
+        }
+    }
+
+    /// What the frame of an index holds: the text, or the whole query.
+    pub fn frame(self, index: u64) -> Vec<u8> {
+        match self {
+            Family::Lines(stream) => gen::query(stream.seed, index).bytes(),
+            _ => self.text(index),
         }
     }
 }
@@ -60,7 +92,8 @@ impl fmt::Display for Family {
         match self {
             Family::Named => write!(f, "named"),
             Family::Small => write!(f, "small"),
-            Family::Random { seed, .. } => write!(f, "gen, seed {seed}"),
+            Family::Random(stream) => write!(f, "gen, seed {}", stream.seed),
+            Family::Lines(stream) => write!(f, "lines, seed {}", stream.seed),
         }
     }
 }

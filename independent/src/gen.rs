@@ -3,8 +3,12 @@
 //! a refusal names. Each text depends on the seed and its index alone.
 
 mod damage;
+mod plans;
+mod queries;
 mod rng;
 mod sets;
+
+pub use queries::query;
 
 use rng::Rng;
 
@@ -47,7 +51,11 @@ pub fn text(seed: u64, index: u64) -> Vec<u8> {
             }
             bytes
         }
-        93..=95 => long(rng),
+        93..=95 => long(
+            rng,
+            |rng| sets::few_jobs(rng).lines(),
+            b"02000000000100000001\n",
+        ),
         _ => scrap(rng),
     }
 }
@@ -82,8 +90,9 @@ fn finish(rng: &mut Rng, lines: Lines) -> Vec<u8> {
     bytes
 }
 
-/// A text about as long as the limit of 4,096 bytes, or longer.
-fn long(rng: &mut Rng) -> Vec<u8> {
+/// A text about as long as the limit of 4,096 bytes, or longer, of some lines and
+/// of many like one more.
+fn long(rng: &mut Rng, some: impl FnOnce(&mut Rng) -> Lines, more: &[u8]) -> Vec<u8> {
     let length = match rng.below(8) {
         0..=1 => 4_095,
         2..=3 => 4_096,
@@ -96,11 +105,11 @@ fn long(rng: &mut Rng) -> Vec<u8> {
         1 => rng.string(length, b"0123456789abcdefABCDEF"),
         2 => rng.string(length, b"0123456789abcdef\n"),
         _ => {
-            let lines = sets::few_jobs(rng).lines();
+            let lines = some(rng);
             finish(rng, lines)
         }
     };
-    // Fill up with job lines, or with one very long line.
+    // Fill up with lines, or with one very long line.
     if rng.one_in(3) {
         bytes.resize(bytes.len().max(length), b'0');
     }
@@ -108,7 +117,7 @@ fn long(rng: &mut Rng) -> Vec<u8> {
         if !bytes.ends_with(b"\n") {
             bytes.push(b'\n');
         }
-        bytes.extend_from_slice(b"02000000000100000001\n");
+        bytes.extend_from_slice(more);
     }
     bytes.truncate(length);
     if rng.one_in(4) {

@@ -1,20 +1,26 @@
 //! The program. A planner that is compared with this one reads the texts of a
 //! family in frames and writes its answers in frames:
-//! `independent FAMILY | other | independent compare FAMILY`. Facts are compared with
-//! those of a command that is run on each text by itself:
+//! `independent FAMILY | other | independent compare FAMILY`. So does a tick
+//! handler, where the family is one of lines. Facts and whole windows are compared
+//! with those of a command that is run on each text by itself:
 //! `independent compare-facts FAMILY -- other`.
 
+use std::fmt::Display;
 use std::io::{self, BufReader, BufWriter, Read, Write};
 use std::process::ExitCode;
 
-use independent::compare_facts::Task;
+use independent::compare::Failure;
+use independent::compare_command::{Said, Task};
+use independent::facts::Facts;
 use independent::family::Family;
-use independent::{bench, command, compare, facts, frames, text};
+use independent::window::Window;
+use independent::{bench, command, compare, compare_lines, facts, frames, text, window};
 
 const USAGE: &str =
-    "usage: independent plan | facts | answers | FAMILY | compare FAMILY | bench GROUP
+    "usage: independent plan | facts | window | answers | FAMILY | compare FAMILY | bench GROUP
        independent compare-facts [--every N] FAMILY -- COMMAND [ARGUMENT]...
-FAMILY: named | small | gen SEED COUNT [FROM]
+       independent compare-window [--every N] FAMILY -- COMMAND [ARGUMENT]...
+FAMILY: named | small | gen SEED COUNT [FROM] | lines SEED COUNT [FROM]
 GROUP: a number of jobs | worst | refused";
 
 fn main() -> ExitCode {
@@ -36,13 +42,18 @@ fn run() -> io::Result<ExitCode> {
     match words[..] {
         ["plan"] => answer(text::plan_text)?,
         ["facts"] => answer(facts::facts_text)?,
+        ["window"] => answer(window::window_text)?,
         ["answers"] => answers()?,
         ["compare", ..] => match Family::parse(&words[1..]) {
             Some(family) => return run_compare(family),
             None => return Ok(usage()),
         },
         ["compare-facts", ..] => match Task::parse(&words[1..]) {
-            Some(task) => return run_compare_facts(&task),
+            Some(task) => return run_task::<Facts>(&task),
+            None => return Ok(usage()),
+        },
+        ["compare-window", ..] => match Task::parse(&words[1..]) {
+            Some(task) => return run_task::<Window>(&task),
             None => return Ok(usage()),
         },
         ["bench", group] => match bench::texts(group) {
@@ -50,7 +61,7 @@ fn run() -> io::Result<ExitCode> {
             None => return Ok(usage()),
         },
         _ => match Family::parse(&words) {
-            Some(family) => write_frames(family.indices().map(|index| family.text(index)))?,
+            Some(family) => write_frames(family.indices().map(|index| family.frame(index)))?,
             None => return Ok(usage()),
         },
     }
@@ -85,23 +96,31 @@ fn answers() -> io::Result<()> {
 fn run_compare(family: Family) -> io::Result<ExitCode> {
     let mut from = BufReader::new(io::stdin().lock());
     let ended = || io::Error::new(io::ErrorKind::UnexpectedEof, "an answer is missing");
-    let verdict = compare::run(family, |_| frames::read(&mut from)?.ok_or_else(ended))?;
+    let mut next = || frames::read(&mut from)?.ok_or_else(ended);
+    let verdict = match family {
+        Family::Lines(stream) => told(compare_lines::run(stream, |_| next())?),
+        _ => told(compare::run(family, |_| next())?),
+    };
     match verdict {
         Ok(_) if frames::read(&mut from)?.is_some() => {
-            eprintln!("{family}: more answers than texts")
+            eprintln!("{family}: more answers than texts");
+            Ok(ExitCode::FAILURE)
         }
-        Ok(counts) => {
-            write!(io::stdout().lock(), "{counts}")?;
-            return Ok(ExitCode::SUCCESS);
-        }
-        Err(failure) => eprintln!("{failure}"),
+        verdict => report(verdict),
     }
-    Ok(ExitCode::FAILURE)
 }
 
-/// Compares with the facts that a command gives.
-fn run_compare_facts(task: &Task) -> io::Result<ExitCode> {
-    match task.run(|input| command::run(&task.command, input))? {
+/// A verdict in words.
+fn told(verdict: Result<impl Display, Box<Failure>>) -> Result<String, String> {
+    match verdict {
+        Ok(counts) => Ok(counts.to_string()),
+        Err(failure) => Err(failure.to_string()),
+    }
+}
+
+/// Prints the counts, or the failure.
+fn report(verdict: Result<String, String>) -> io::Result<ExitCode> {
+    match verdict {
         Ok(counts) => {
             write!(io::stdout().lock(), "{counts}")?;
             Ok(ExitCode::SUCCESS)
@@ -111,6 +130,12 @@ fn run_compare_facts(task: &Task) -> io::Result<ExitCode> {
             Ok(ExitCode::FAILURE)
         }
     }
+}
+
+/// Compares with what a command says.
+fn run_task<S: Said>(task: &Task) -> io::Result<ExitCode> {
+    let verdict = task.run::<S>(|input| command::run(&task.command, input))?;
+    report(told(verdict))
 }
 
 fn usage() -> ExitCode {

@@ -2,6 +2,7 @@
 //! the moves. Each rule is written once for "a kind and the other kind", so the
 //! mirrored cases share their code.
 
+use std::fmt;
 use std::ops::{Index, IndexMut};
 
 pub const MAX_WINDOW: i64 = 65_535;
@@ -22,6 +23,22 @@ impl Kind {
         match self {
             Kind::First => Kind::Second,
             Kind::Second => Kind::First,
+        }
+    }
+
+    /// The kind of a number, 1 or 2.
+    pub fn numbered(number: i64) -> Option<Kind> {
+        match number {
+            1 => Some(Kind::First),
+            2 => Some(Kind::Second),
+            _ => None,
+        }
+    }
+
+    pub fn number(self) -> i64 {
+        match self {
+            Kind::First => 1,
+            Kind::Second => 2,
         }
     }
 }
@@ -144,6 +161,9 @@ pub enum Reason {
     BadDigits,
     BadRecord,
     BadOrder,
+    OffBoard,
+    BadRow,
+    Collision,
 }
 
 impl Reason {
@@ -159,6 +179,9 @@ impl Reason {
             Reason::BadDigits => 8,
             Reason::BadRecord => 9,
             Reason::BadOrder => 10,
+            Reason::OffBoard => 11,
+            Reason::BadRow => 12,
+            Reason::Collision => 13,
         }
     }
 }
@@ -172,6 +195,13 @@ pub struct Refusal {
 impl Refusal {
     pub fn new(reason: Reason, place: usize) -> Refusal {
         Refusal { reason, place }
+    }
+}
+
+/// The words that all programs say it in, with the numbers in decimal.
+impl fmt::Display for Refusal {
+    fn fmt(&self, f: &mut fmt::Formatter) -> fmt::Result {
+        write!(f, "refused {} {}", self.reason.number(), self.place)
     }
 }
 
@@ -196,17 +226,29 @@ pub struct Moves {
     pub inner: usize,
 }
 
-/// Checks 1 to 5, each over all jobs before the next.
-pub fn check(board: &Board, jobs: &[Job]) -> Result<(), Refusal> {
-    let legal_cost = |cost: i64| (1..=MAX_COST).contains(&cost);
-    let legal_cores = |cores: i64| (1..=MAX_CORES).contains(&cores);
-
-    if !(1..=MAX_WINDOW).contains(&board.window) {
+/// Check 1.
+pub fn check_window(window: i64) -> Result<(), Refusal> {
+    if !(1..=MAX_WINDOW).contains(&window) {
         return Err(Refusal::new(Reason::Window, 0));
     }
+    Ok(())
+}
+
+/// Checks 1 and 2.
+pub fn check_board(board: &Board) -> Result<(), Refusal> {
+    let legal_cores = |cores: i64| (1..=MAX_CORES).contains(&cores);
+    check_window(board.window)?;
     if !Kind::ALL.iter().all(|&kind| legal_cores(board.cores[kind])) {
         return Err(Refusal::new(Reason::Cores, 0));
     }
+    Ok(())
+}
+
+/// Checks 1 to 5, each over all jobs before the next.
+pub fn check(board: &Board, jobs: &[Job]) -> Result<(), Refusal> {
+    let legal_cost = |cost: i64| (1..=MAX_COST).contains(&cost);
+
+    check_board(board)?;
     if jobs.len() > MAX_JOBS {
         return Err(Refusal::new(Reason::TooManyJobs, MAX_JOBS));
     }

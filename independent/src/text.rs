@@ -44,7 +44,7 @@ pub fn read(input: &[u8]) -> Result<(Board, Vec<Job>), Refusal> {
 }
 
 /// The lines without their line feeds; a feed at the end opens no new line.
-fn lines(input: &[u8]) -> impl Iterator<Item = &[u8]> {
+pub fn lines(input: &[u8]) -> impl Iterator<Item = &[u8]> {
     let body = input.strip_suffix(b"\n").unwrap_or(input);
     let none_at_all = input.is_empty();
     body.split(|&byte| byte == b'\n')
@@ -52,7 +52,7 @@ fn lines(input: &[u8]) -> impl Iterator<Item = &[u8]> {
 }
 
 /// The bytes that a line's digits stand for, or nothing where refusal 8 is due.
-fn digits(line: &[u8]) -> Option<Vec<u8>> {
+pub fn digits(line: &[u8]) -> Option<Vec<u8>> {
     if line.is_empty() || line.len() % 2 == 1 {
         return None;
     }
@@ -73,10 +73,7 @@ fn digit(byte: u8) -> Option<u8> {
 /// The record of a line's bytes, or nothing where refusal 9 is due.
 fn record(bytes: &[u8]) -> Option<Record> {
     match *bytes {
-        [0x01, high, low, first, second] => Some(Record::Board(Board {
-            window: number(&[high, low]),
-            cores: PerKind::new(i64::from(first), i64::from(second)),
-        })),
+        [0x01, ..] => board(bytes).map(Record::Board),
         [0x02, allowed, a, b, c, d, e, f, g, h] => {
             let cost = PerKind::new(number(&[a, b, c, d]), number(&[e, f, g, h]));
             let allowed = match (allowed, cost.first, cost.second) {
@@ -91,7 +88,19 @@ fn record(bytes: &[u8]) -> Option<Record> {
     }
 }
 
-fn number(bytes: &[u8]) -> i64 {
+/// The board of a line's bytes, or nothing where refusal 9 is due.
+pub fn board(bytes: &[u8]) -> Option<Board> {
+    let &[0x01, high, low, first, second] = bytes else {
+        return None;
+    };
+    Some(Board {
+        window: number(&[high, low]),
+        cores: PerKind::new(i64::from(first), i64::from(second)),
+    })
+}
+
+/// The number of bytes, high byte first.
+pub fn number(bytes: &[u8]) -> i64 {
     bytes
         .iter()
         .fold(0, |value, &byte| 256 * value + i64::from(byte))
@@ -110,13 +119,9 @@ pub fn write_plan(plan: &Plan) -> Vec<u8> {
         );
     }
     for slice in &plan.slices {
-        let kind = match slice.kind {
-            Kind::First => 1,
-            Kind::Second => 2,
-        };
         let fields = [
             (slice.job as i64, 1),
-            (kind, 1),
+            (slice.kind.number(), 1),
             (slice.core, 1),
             (slice.start, 2),
             (slice.length, 2),
