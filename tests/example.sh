@@ -1,13 +1,14 @@
 #!/usr/bin/env bash
 # The example in C links the static library, as C99 without a warning, reads the answers to the stored sets into structs, and prints what it
-# should. The library has the one entry, and needs what its header says. Where the whole example is written out, it is the stored one.
+# should. The library has the header's entries, and needs what the header says. Where the whole example is written out, it is the stored one.
 set -u -o pipefail
 cd "$(dirname "$0")/.." || exit 2
 . tools/x86-64.sh
 c_program example -std=c99 -pedantic-errors || exit
 [ -s tests/c/example.stdout ] && $emulator target/c/example examples/two-jobs.txt examples/no-window.txt | diff - tests/c/example.stdout || exit 1
 symbols=$("$nm" -gP target/staticlib/libclampfern.a | awk 'NF > 1 { print $2, $1 }' | LC_ALL=C sort | tr '\n' ';')
-[ "$symbols" = 'T clampfern_plan;U memcpy;U memset;' ] || { echo "the library has (T) and needs (U): $symbols" && exit 1; }
+wanted='T clampfern_pack;T clampfern_packed_tick;T clampfern_plan;T clampfern_tick;U memcpy;U memset;'
+[ "$symbols" = "$wanted" ] || { echo "the library has (T) and needs (U): $symbols" && exit 1; }
 
 # is_stored NAME FILE: the lines from standard input are those of the stored file.
 is_stored() {

@@ -12,10 +12,11 @@ unset SEED COUNT
 # ---- the stand-in, and the programs that stand in
 mkdir -p "$room/whole/said" "$room/whole/docs" "$room/whole/independent/target/release" "$room/bin"
 cp -R .ci README.md examples include tests tools "$room/whole"
-cp --parents docs/SPEC.md docs/REFUSALS.md crates/plan/stdin crates/plan/stdout crates/model/specs/Limits.antt "$room/whole"
+cp --parents docs/SPEC.md docs/REFUSALS.md crates/plan/std{in,out} crates/window/stdin crates/model/specs/Limits.antt "$room/whole"
 cp -R independent/tests "$room/whole/independent"
 read -ra tests < <(sed -nE 's/^tests=\((.*)\)$/\1/p' .ci/run)
-libraries=(model text clampfern)
+libraries=(model text kernel clampfern)
+all=$((2 * ${#libraries[@]} + 1)) # each library and its edit, and the program
 (
     cd "$room/whole" || exit
     printf '%s:\n' "${libraries[@]}" plan >crates.txt
@@ -39,22 +40,35 @@ libraries=(model text clampfern)
     {
         printf 'logic=proved functions=1 sum=0123 native=nat\nrt: %s proved (1 s)\n' "${libraries[@]}" plan
         printf 'rt: must-fail %s/one: refused, as it must be (first at src/lib.rt:1:1; 1 s)\n' "${libraries[@]}"
-        printf "rt: plan ran as nobody, and wrote what its file 'stdout' has (0 s)\n7 passed, 0 failed\n"
+        printf "rt: plan ran as nobody, and wrote what its file 'stdout' has (0 s)\n%s passed, 0 failed\n" "$all"
     } >ci
     for file in ../independent/tests/*.rs; do
         printf '     Running tests/%s (target/release/deps/x)\nrunning 100 tests\n' "$(basename "$file")"
         echo 'test result: ok. 100 passed; 0 failed; 0 ignored; 0 measured; 0 filtered out; finished in 0.00s'
     done >cargo
-    printf '#!/bin/sh\ncat\n' >frames
+    printf '#!/bin/sh\ncat\n' | tee ticks >frames
     printf '#!/bin/sh\ncat tests/c/example.stdout\n' | tee bench >example
-    printf '%s\n' 'lib.a[x.o]:' 'clampfern_plan T 0 1' 'memcpy U' 'memset U' >symbols
+    printf '#!/bin/sh\ncat tests/c/window.stdout\n' >window
+    printf '%s\n' 'lib.a[x.o]:' 'clampfern_'{plan,tick,pack,packed_tick}' T 0 1' 'memcpy U' 'memset U' >symbols
     printf '%s\n' '0000 <clampfern_plan>:' $'   0:\tpush   %rbx' $'   1:\tsub    $0x10,%rsp' $'   2:\tcall   10 <split::steps>' $'   3:\tret' \
-        '0010 <split::steps>:' $'  10:\tmov    %eax,-0x18(%rsp)' $'  11:\tret' '0020 <facts::plan_over_marks>:' $'  20:\tsub    $0xa00,%rsp' $'  21:\tret' >code
+        '0010 <split::steps>:' $'  10:\tmov    %eax,-0x18(%rsp)' $'  11:\tret' '0020 <facts::plan_over_marks>:' $'  20:\tsub    $0xa00,%rsp' \
+        $'  21:\tret' '0030 <clampfern_'{tick,pack,packed_tick}$'>:\n  30:\tret' >code
     echo 'texts 10' >counted
     printf '%s\n' '10 ( 1.0%)  ???:split::steps [x]' '2,000 ( 9.0%)  ???:clampfern_plan [x]' '9,000 (90.0%)  memset.S:memset [x]' >annotated
     printf 'texts 54\nplans 9\n' >named
     printf 'texts 121300\nplans 9\n' >small
     printf 'texts 200000\nplans 9\n' >gen
+    echo 'queries 200000, named 100, idle 100, refused 1: 100, 2: 100, 8: 100, 9: 100, 10: 100, 11: 100, 12: 100, 13: 100' >lines
+    printf 'texts 1500\naccepted 500\nrefused 500\n' >windows
+    # the program, and the loader that runs it after two words
+    mkdir -p ../target/bin ../kit/toolchain/lib
+    cat >../target/bin/window <<'END'
+#!/bin/sh
+cat >/dev/null 2>&1 || { echo 'window: the input cannot be read' >&2 && exit; }
+echo idle 2>/dev/null || echo 'window: the answer cannot be written' >&2
+END
+    printf '#!/bin/sh\nshift 2\nexec "$@"\n' >../kit/toolchain/lib/ld-linux-x86-64.so.2
+    chmod +x ../target/bin/window ../kit/toolchain/lib/*
 )
 cat >"$room/bin/rt" <<'END'
 #!/bin/sh
@@ -100,7 +114,10 @@ cat said/annotated
 END
 cat >"$room/whole/independent/target/release/independent" <<'END'
 #!/bin/sh
-[ "$1" != compare ] || { cat >&2 && cat "said/$2"; }
+case $1 in
+compare) cat >&2 && cat "said/$2" ;;
+compare-window) cat said/windows ;;
+esac
 END
 chmod +x "$room"/bin/* "$room/whole/independent/target/release/independent"
 for name in cc c++ x86_64-linux-gnu-gcc x86_64-linux-gnu-g++; do [ -e "$room/bin/$name" ] || cp "$room/bin/cc" "$room/bin/$name"; done
@@ -146,10 +163,10 @@ fails() {
 }
 
 # ---- the gate
-passes .ci/run "$((7 + 3 + ${#tests[@]})) passed, 0 failed"
-fails 'rt ci passed 0 of the 7 crates and edits' 'echo 0 passed, 0 failed >said/ci'
-fails 'rt ci passed 6 of the 7 crates and edits' 'sed -i "s/^7 passed/6 passed/" said/ci'
-fails 'rt ci did not say: model proved' 'echo 7 passed, 0 failed >said/ci'
+passes .ci/run "$((all + 3 + ${#tests[@]})) passed, 0 failed"
+fails "rt ci passed 0 of the $all crates and edits" 'echo 0 passed, 0 failed >said/ci'
+fails "rt ci passed 6 of the $all crates and edits" 'sed -i "s/^$all passed/6 passed/" said/ci'
+fails 'rt ci did not say: model proved' 'echo "$all" passed, 0 failed >said/ci'
 fails 'rt ci did not say: text proved' 'sed -i "/^rt: text proved/d" said/ci'
 fails 'rt ci did not say: text proved' 'sed -i "s/^rt: text proved.*/rt: text proved (unchanged since it was last proved)/" said/ci'
 fails 'rt ci did not say: model proved, logic 0123' 'sed -i "0,/sum=0123/s//sum=4567/" said/ci'
@@ -196,11 +213,14 @@ fails 'the input of plan has another example' 'echo >>crates/plan/stdin'
 fails 'the output of plan has another example' ': >crates/plan/stdout'
 
 # ---- the stack: a push, 16 bytes, two return addresses and 24 bytes below the pointer
-passes tests/stack.sh 'clampfern_plan 64 bytes, planner::plan 40 bytes'
+passes tests/stack.sh 'clampfern_plan 64 bytes, clampfern_tick 8 bytes, clampfern_pack 8 bytes, clampfern_packed_tick 8 bytes, planner::plan 40 bytes'
 fails 'clampfern_plan needs 4144 bytes of stack' 'sed -i s/0x10,/0x1000,/ said/code'
 fails 'clampfern_plan needs 4128 bytes of stack' 'sed -i "s/mov .*/sub    \$0xff8,%rsp/" said/code'
 fails 'planner::plan needs 4136 bytes of stack' 'sed -i s/0xa00,/0x1a00,/ said/code'
-fails 'there is no function clampfern_plan' 'sed -i s/clampfern_plan/more/ said/code'
+for entry in plan tick pack packed_tick; do
+    fails "there is no function clampfern_$entry" "sed -i s/clampfern_$entry/more/ said/code"
+done
+fails 'clampfern_tick needs 4104 bytes of stack' 'sed -i "/<clampfern_tick>/a\  30:\tsub    \$0x1000,%rsp" said/code'
 fails 'there is no function facts::plan_over_marks' 'sed -i s/plan_over_marks/more/ said/code'
 fails 'split::steps calls itself' 'sed -i "s/ret/call   10 <split::steps>/" said/code'
 fails 'split::steps has call   *%rax' 'sed -i "s/mov .*/call   *%rax/" said/code'
@@ -224,6 +244,23 @@ fails 'COUNT is 0' 'export COUNT=0'
 fails '' 'echo exit 1 >>said/frames'
 fails 'fewer than 321354 texts were compared' 'echo "#!/bin/sh" >tools/compare'
 
+# ---- the tick handler
+passes tests/ticks.sh "$(cat "$room/whole/said/lines"), windows: texts 1500, accepted 500, refused 500"
+fails "fewer than 200000 under 'queries'" 'sed -i s/200000/199999/ said/lines'
+fails "fewer than 200000 under 'queries'" ': >said/lines'
+fails "fewer than 100 under 'idle'" 'sed -i "s/idle 100/idle 99/" said/lines'
+fails "fewer than 100 under '1:'" 'sed -i "s/refused 1: 100,/refused 11: 100,/" said/lines'
+fails "fewer than 100 under '13:'" 'sed -i "s/13: 100/13: 99/" said/lines'
+fails "fewer than 1500 under 'texts'" 'sed -i s/1500/1499/ said/windows'
+fails "fewer than 500 under 'accepted'" 'sed -i "s/accepted 500/accepted 499/" said/windows'
+fails 'COUNT is 0' 'export COUNT=0'
+fails '' 'echo exit 1 >>said/ticks'
+fails '' 'echo exit 1 >>said/window'
+fails '> examples/two-jobs.txt: window 10' 'echo exit 0 >said/window'
+fails '' ': >tests/c/window.stdout'
+fails 'a directory for input: status 0' 'sed -i "s/^cat .*/cat >\/dev\/null/" target/bin/window'
+fails 'full output: status' 'echo echo >target/bin/window'
+
 # ---- the must-fail edits' facts
 # edit SAYING CHANGE: an edit with such a change.
 edit() {
@@ -239,8 +276,8 @@ rests='+proofs/g/Proof.antt:9:1: error: `g-spec`: `close` was not admitted (it w
 unproved='it is not proved that what the function ensures holds when it returns (`returns-2`)'
 mkdir -p "$room/whole/target/must-fail/text/one/src"
 printf '%s\n' '// a function' 'pub fn f(x: u8) -> u8' | tee "$room/whole/target/must-fail/text/one/src/lib.rt" >"$room/whole/target/must-fail/text/one/src/m.rt"
-passes tests/must-fail-at-a-fact.sh '3 edits'
-passes tests/must-fail-at-a-fact.sh '3 edits' 'sed -i "s/^file: src/file: specs/" crates/text/must-fail/one.edit && mv crates/text/must-fail/{,definition_}one.edit &&
+passes tests/must-fail-at-a-fact.sh "${#libraries[@]} edits"
+passes tests/must-fail-at-a-fact.sh "${#libraries[@]} edits" 'sed -i "s/^file: src/file: specs/" crates/text/must-fail/one.edit && mv crates/text/must-fail/{,definition_}one.edit &&
     mv target/must-fail/text/{,definition_}one && sed -i s,/one/,/definition_one/, target/must-fail/text/definition_one/.log'
 fails 'crates/text: no must-fail edit' 'rm crates/text/must-fail/one.edit'
 fails 'crates/text: no must-fail edit' 'rm -r crates/*/must-fail'
@@ -266,8 +303,8 @@ logged "refused at 'm::f returns-2', and not" "note: +src/m.rt:2:1: $unproved"
 promised() {
     fails "$1" "sed -i '/^## clampfern/,\$$2' docs/PROMISES.md"
 }
-passes tests/promises.sh '3 functions, 3 edits'
-passes tests/promises.sh '3 functions, 4 edits' 'touch crates/text/must-fail/two.edit && sed -i "/^## text/,/^$/s/\[one\]; .*|/[one, two] |/" docs/PROMISES.md'
+passes tests/promises.sh "${#libraries[@]} functions, ${#libraries[@]} edits"
+passes tests/promises.sh "${#libraries[@]} functions, $((${#libraries[@]} + 1)) edits" 'touch crates/text/must-fail/two.edit && sed -i "/^## text/,/^$/s/\[one\]; .*|/[one, two] |/" docs/PROMISES.md'
 promised 'crates/clampfern: `f(x)` names one edit, and does not say why' 's/one edit, since/for/'
 promised 'crates/clampfern: `f(x)` names no edit, and does not say why' 's/\[one\];/and/'
 promised 'crates/clampfern/must-fail/one: not named' 's/^## clampfern/## more/'
@@ -313,21 +350,23 @@ header_numbers() {
     sed -nE '/STACK_MOST/d; s/^.*CLAMPFERN_([A-Z_]+) (= )?([0-9]+).*/\1 \3/p' include/clampfern.h
 }
 passes tests/header.sh "$(header_numbers | wc -l) numbers"
-header the_result_has_8_bytes 's/^size_t clampfern/uint16_t clampfern/'
-header 'planner *const entry' 's/^size_t clampfern/int64_t clampfern/'
-header 'planner *const entry' 's/size_t text_len,/uint32_t text_len,/'
-header 'planner *const entry' 's/size_t out_len)/uint32_t out_len)/'
-header 'planner *const entry' 's/const uint8_t/uint8_t/'
+for entry in plan pack tick packed_tick; do
+    header "const ${entry}_entry = " "s/^\\(size\|uint32\)_t clampfern_$entry(/int64_t clampfern_$entry(/"
+    header "const ${entry}_entry = " "/ clampfern_$entry(/s/const uint8_t/uint8_t/"
+    header "const ${entry}_entry = " "/ clampfern_$entry(/s/size_t \\([a-z_]*_len\\)/uint32_t \\1/"
+    header "declares these functions: " "/^[a-z0-9_]* clampfern_$entry(/d"
+done
+header 'const plan_entry = ' 's/size_t out_len)/uint32_t out_len)/'
+header 'const tick_entry = ' '/ clampfern_tick(/s/uint32_t core)/size_t core)/'
 while read -r name number; do
     header "${name}_is_the_sources_number" "s/\(CLAMPFERN_$name [= ]*\)$number/\1$((number + 1))/"
 done < <(header_numbers)
 header CLAMPFERN_JOBS_MOST '/CLAMPFERN_JOBS_MOST/d'
 header 'has numbers that the sources have not: MORE' 's/^enum/#define CLAMPFERN_MORE 1\n&/'
-header 'has numbers that the sources have not: REFUSAL_MORE' 's/ORDER = 10/&, CLAMPFERN_REFUSAL_MORE = 11/'
-header 'planner clampfern_plan;' '/^extern "C"/d; /^}$/d'
-header 'declares these functions: more' 's/^size_t clampfern/size_t more(void);\n&/'
-header 'declares these functions: ' '/^size_t clampfern/d'
-fails 'the sources have these entries' 'sed -i "s/^\(pub extern.*\) usize/\1 u32/" crates/clampfern/src/lib.rt'
+header 'has numbers that the sources have not: REFUSAL_MORE' 's/ORDER = 10/&, CLAMPFERN_REFUSAL_MORE = 14/'
+header 'writer clampfern_plan, ' '/^extern "C"/d; /^}$/d'
+header 'declares these functions: ' 's/^size_t clampfern_plan/size_t more(void);\n&/'
+fails 'the sources have these entries' 'sed -i "s/^\(pub extern.*\) usize/\1 u32/" crates/clampfern/src/*.rt'
 fails 'the sources give no ANSWER_MOST' 'sed -i "/const ANSWER_MOST/d" crates/text/src/*.rt'
 fails 'slicesMost is not 95' 'sed -i "s/const SLICES_MOST: usize = 94/const SLICES_MOST: usize = 95/" crates/model/src/lib.rt'
 fails 'windowMost is not 65535' 'sed -i "s/^windowMost = .*/windowMost = 65536/" crates/model/specs/Limits.antt'

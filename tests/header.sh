@@ -1,6 +1,6 @@
 #!/usr/bin/env bash
-# The C header says what the library is: the entry of the Rattle source and no other, each type exactly, and the sources' number for each limit,
-# each refusal and the longest answer. It compiles as C and C++ of each standard without a warning, by itself and when it is included twice.
+# The C header says what the library is: the entries of the Rattle source and no other, each type exactly, and the sources' number for each limit,
+# code and refusal. It compiles as C and C++ of each standard without a warning, by itself and when it is included twice.
 set -u -o pipefail
 cd "$(dirname "$0")/.." || exit 2
 . tools/x86-64.sh
@@ -15,27 +15,34 @@ wrong() {
     bad=1
 }
 
-# The entry as header and tests/c/header.c were written for it. Who changes it has to look at them.
-entry='pub extern "C" fn clampfern_plan(text: &[u8], out: &mut [u8]) -> usize'
-entries=$(grep -rhE --include='*.rt' 'extern[[:space:]]+"' crates)
-[ "$entries" = "$entry" ] || wrong "the sources have these entries: $entries"
+# The entries as header and tests/c/header.c were written for them. Who changes one has to look there.
+written='pub extern "C" fn clampfern_pack(lines: &[u8], table: &mut [u8]) -> usize
+pub extern "C" fn clampfern_packed_tick(table: &[u8], tick: u32, kind: u32, core: u32) -> u32
+pub extern "C" fn clampfern_plan(text: &[u8], out: &mut [u8]) -> usize
+pub extern "C" fn clampfern_tick(lines: &[u8], tick: u32, kind: u32, core: u32) -> u32'
+entries=$(grep -rhE --include='*.rt' 'extern[[:space:]]+"' crates | LC_ALL=C sort)
+[ "$entries" = "$written" ] || wrong "the sources have these entries: $entries"
 
 # What the header declares and defines by itself: the standard's headers are empty here.
 mkdir "$temporary/empty" && touch "$temporary/empty/stddef.h" "$temporary/empty/stdint.h"
 alone=("$cc" -std=c11 -E -P -nostdinc -I "$temporary/empty")
 declared=$("${alone[@]}" "$header") || wrong "$header does not go through the preprocessor"
-functions=$(grep -oE '[A-Za-z0-9_]+[[:space:]]*\(' <<<"$declared" | tr -d ' (')
+functions=$(grep -oE '[A-Za-z0-9_]+[[:space:]]*\(' <<<"$declared" | tr -d ' (' | LC_ALL=C sort)
 [ "$functions" = "$(sed -E 's/.* fn ([a-z0-9_]+)\(.*/\1/' <<<"$entries")" ] || wrong "$header declares these functions: $functions"
 
-# The header's limits: each with its constant of the sources, and its definition (a dash: it is a sum over others). A new limit is a new row.
+# The header's limits and codes: each with its value by constants of the sources, and its definition (a dash: it is a sum over others, or a promise
+# holds the code to it). A new one is a new row.
 limits='
-WINDOW_MOST  WINDOW_MOST  windowMost
-CORES_MOST   CORES_MOST   coresMost
-JOBS_MOST    JOBS_MOST    jobsMost
-COST_MOST    COST_MOST    costMost
-TEXT_MOST    TEXT_MOST    textMost
-SLICES_MOST  SLICES_MOST  slicesMost
-OUT_MOST     ANSWER_MOST  -'
+WINDOW_MOST   WINDOW_MOST                         windowMost
+CORES_MOST    CORES_MOST                          coresMost
+JOBS_MOST     JOBS_MOST                           jobsMost
+COST_MOST     COST_MOST                           costMost
+TEXT_MOST     TEXT_MOST                           textMost
+SLICES_MOST   SLICES_MOST                         slicesMost
+OUT_MOST      ANSWER_MOST                         -
+PACKED_MOST   BOARD_SIZE+SLICE_SIZE*ROWS_MOST     -
+TICK_IDLE     IDLE                                -
+TICK_REFUSED  REFUSAL_BASE                        -'
 
 # numbers: a line NAME NUMBER for each number that the sources have for the header.
 numbers() {
@@ -45,11 +52,13 @@ numbers() {
         [[ $value =~ ^(proved_[A-Z0-9_]+|[0-9 +*()-])+$ ]] || continue
         [ -z "${!name:-}" ] || { echo "${name#proved_} has two values" && return 1; } >&2
         local "$name=$value"
-    done < <(sed 's,//.*,,' crates/model/src/*.rt crates/text/src/*.rt | tr '\n' ' ' | grep -oE 'const [A-Z0-9_]+: (usize|u32) = [^;]+;' | sort -u |
-        sed -E 's/^const ([A-Z0-9_]+): [a-z0-9]+ = (.*);$/\1 \2/; s/[a-z_]+:://g; s/([0-9])_([0-9])/\1\2/g; s/[A-Z][A-Z0-9_]*/proved_&/g')
-    while read -r name constant definition; do
-        value=proved_$constant
-        [ -n "${!value:-}" ] || { echo "the sources give no $constant" && return 1; } >&2
+    done < <(sed 's,//.*,,' crates/{model,text,kernel,clampfern}/src/*.rt | tr '\n' ' ' | grep -oE 'const [A-Z0-9_]+: (usize|u32) = [^;]+;' |
+        sort -u | sed -E 's/^const ([A-Z0-9_]+): [a-z0-9]+ = (.*);$/\1 \2/; s/[a-z_]+:://g; s/([0-9])_([0-9])/\1\2/g; s/[A-Z][A-Z0-9_]*/proved_&/g')
+    while read -r name value definition; do
+        value=$(sed -E 's/[A-Z_]+/proved_&/g' <<<"$value")
+        for constant in ${value//[+*]/ }; do
+            [ -n "${!constant:-}" ] || { echo "the sources give no ${constant#proved_}" && return 1; } >&2
+        done
         value=$((value))
         if [ "$definition" != - ] && ! grep -qx "$definition = $value" crates/model/specs/Limits.antt; then
             echo "$definition is not $value" >&2

@@ -5,14 +5,12 @@
  * texts: a header that promises a greater one promises too much. */
 #define _DEFAULT_SOURCE
 #include "clampfern.h"
+#include "wall.h"
 #include <stdio.h>
 #include <stdlib.h>
 #include <string.h>
-#include <sys/mman.h>
 
 #define TEXT_MOST 65536
-#define BEFORE 64  /* bytes before a buffer that must stay as they are */
-#define MARK 0xa5  /* in no answer */
 
 static unsigned long number; /* of the text */
 static size_t most;          /* bytes in an answer up to here */
@@ -21,23 +19,6 @@ static void fail(const char *what)
 {
     fprintf(stderr, "frames: text %lu: %s\n", number, what);
     exit(1);
-}
-
-/* The end of so many bytes of memory, at a page that may not be touched. */
-static uint8_t *walled(size_t size)
-{
-    uint8_t *start = mmap(NULL, size + 4096, PROT_READ | PROT_WRITE, MAP_PRIVATE | MAP_ANONYMOUS, -1, 0);
-    if (start == MAP_FAILED || mprotect(start + size, 4096, PROT_NONE) != 0)
-        fail("no memory");
-    return start + size;
-}
-
-static int marked(const uint8_t *from, const uint8_t *end)
-{
-    while (from < end)
-        if (*from++ != MARK)
-            return 0;
-    return 1;
 }
 
 /* Plans into the last bytes before the wall, with marks in and before them, and sees to it that only those of the answer change. */
@@ -75,6 +56,8 @@ int main(int argc, char **argv)
     uint8_t *text_wall = walled(TEXT_MOST);
     uint8_t *out_wall = walled(8192);
     uint8_t head[4];
+    if (!text_wall || !out_wall)
+        fail("no memory");
     while (fread(head, 1, 4, stdin) == 4) {
         size_t size = (size_t)head[0] << 24 | head[1] << 16 | head[2] << 8 | head[3];
         if (size > TEXT_MOST || fread(text_wall - size, 1, size, stdin) != size)
