@@ -1,6 +1,7 @@
 //! A checker that knows nothing of any planner. It reads the input and the
 //! plan by itself and verifies that the plan is one the jobs can run by; and
-//! it tells, for any legal set, whether a split in fractions exists.
+//! it tells, for any legal set, whether a split in fractions exists, and which
+//! room is too small where a refusal says that one is.
 
 use crate::duality::{split_exists, Demand};
 
@@ -34,6 +35,10 @@ macro_rules! demand {
         }
     };
 }
+
+mod room;
+
+pub use room::check_cause;
 
 impl Set {
     /// The set of an input text, where the text is in order and the set legal.

@@ -156,7 +156,7 @@ pub enum Reason {
     TooManyJobs,
     Cost,
     DoesNotFit,
-    NoRoom,
+    NoRoom(Shortage),
     TablesTooShort,
     BadDigits,
     BadRecord,
@@ -174,7 +174,7 @@ impl Reason {
             Reason::TooManyJobs => 3,
             Reason::Cost => 4,
             Reason::DoesNotFit => 5,
-            Reason::NoRoom => 6,
+            Reason::NoRoom(shortage) => shortage.number(),
             Reason::TablesTooShort => 7,
             Reason::BadDigits => 8,
             Reason::BadRecord => 9,
@@ -182,6 +182,29 @@ impl Reason {
             Reason::OffBoard => 11,
             Reason::BadRow => 12,
             Reason::Collision => 13,
+        }
+    }
+}
+
+/// Which room the steps of the split find too small.
+#[derive(Clone, Copy, Debug, PartialEq, Eq)]
+pub enum Shortage {
+    /// That of both kinds, with all jobs at home.
+    Both,
+    /// That of this kind alone at home, and still with all its movable jobs at
+    /// their far ends.
+    Kind(Kind),
+    /// That of the other kind, once the one that was over at home fits.
+    Other,
+}
+
+impl Shortage {
+    fn number(self) -> u8 {
+        match self {
+            Shortage::Both => 6,
+            Shortage::Kind(Kind::First) => 14,
+            Shortage::Kind(Kind::Second) => 15,
+            Shortage::Other => 16,
         }
     }
 }
@@ -195,6 +218,10 @@ pub struct Refusal {
 impl Refusal {
     pub fn new(reason: Reason, place: usize) -> Refusal {
         Refusal { reason, place }
+    }
+
+    fn for_room(shortage: Shortage) -> Refusal {
+        Refusal::new(Reason::NoRoom(shortage), 0)
     }
 }
 
@@ -277,17 +304,35 @@ pub fn split(board: &Board, jobs: &[Job]) -> Result<Vec<PerKind>, Refusal> {
     check(board, jobs)?;
     let mut shares: Vec<PerKind> = jobs.iter().map(Job::home_share).collect();
     let start = balance(board, &shares);
-    match (start.first < 0, start.second < 0) {
+    let over = match (start.first < 0, start.second < 0) {
         (false, false) => return Ok(shares),
-        (true, true) => return Err(Refusal::new(Reason::NoRoom, 0)),
-        (true, false) => relieve(board, jobs, Kind::First, &mut shares),
-        (false, true) => relieve(board, jobs, Kind::Second, &mut shares),
-    }
+        (true, true) => return Err(Refusal::for_room(Shortage::Both)),
+        (true, false) => Kind::First,
+        (false, true) => Kind::Second,
+    };
+    relieve(board, jobs, over, &mut shares);
     let end = balance(board, &shares);
-    if end.first < 0 || end.second < 0 {
-        return Err(Refusal::new(Reason::NoRoom, 0));
+    // The far ends decide by themselves. The steps must come to the same: they
+    // give up only when no movable job is left.
+    let fits = fits_at_far_ends(board, jobs, over);
+    assert_eq!(fits, end[over] >= 0, "{board:?} {jobs:?} {shares:?}");
+    if !fits {
+        return Err(Refusal::for_room(Shortage::Kind(over)));
+    }
+    if end[over.other()] < 0 {
+        return Err(Refusal::for_room(Shortage::Other));
     }
     Ok(shares)
+}
+
+/// Whether a kind is within its room with all its movable jobs at their far ends.
+fn fits_at_far_ends(board: &Board, jobs: &[Job], kind: Kind) -> bool {
+    let least = |job: &Job| match job.far_end(board.window) {
+        Some(far) if job.home() == kind => far,
+        _ => job.home_share(),
+    };
+    let shares: Vec<PerKind> = jobs.iter().map(least).collect();
+    balance(board, &shares)[kind] >= 0
 }
 
 /// Moves work away from the kind `from`, which is over its room, until it is
@@ -413,7 +458,7 @@ fn place(window: i64, job: usize, kind: Kind, from: i64, to: i64) -> Slice {
     }
 }
 
-/// The whole plan, or the first refusal among 1 to 6.
+/// The whole plan, or the first refusal among 1 to 5 and those for room.
 pub fn plan(board: &Board, jobs: &[Job]) -> Result<Plan, Refusal> {
     let shares = split(board, jobs)?;
     let slices = wrap(board, &shares);
@@ -421,7 +466,7 @@ pub fn plan(board: &Board, jobs: &[Job]) -> Result<Plan, Refusal> {
 }
 
 /// The plan written into lent tables. Gives the rows written in each; on a
-/// refusal, 1 to 7, no row is changed.
+/// refusal, be it the plan's or 7, no row is changed.
 pub fn plan_into(
     board: &Board,
     jobs: &[Job],

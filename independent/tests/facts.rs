@@ -96,9 +96,11 @@ fn inner_moves() {
 #[test]
 fn refused_for_room() {
     let jobs = [b(6, 16), b(6, 16), b(6, 16), f(9)];
-    set_has([2, 2], &jobs, &["balance -7 20", "refused 6 0"]);
+    set_has([2, 2], &jobs, &["balance -7 20", "refused 14 0"]);
     let jobs = [b(10, 10), b(10, 10), b(10, 10)];
-    set_has([1, 1], &jobs, &["balance -20 10", "refused 6 0"]);
+    set_has([1, 1], &jobs, &["balance -20 10", "refused 16 0"]);
+    let jobs = [b(16, 6), b(16, 6), b(16, 6), s(9)];
+    set_has([2, 2], &jobs, &["balance 20 -7", "refused 15 0"]);
     // Both kinds are over.
     let jobs = [f(6), s(7), f(6), s(7)];
     set_has([1, 1], &jobs, &["balance -2 -4", "refused 6 0"]);
@@ -109,7 +111,7 @@ fn refused_by_the_checks() {
     has("0100000101\n", &["refused 1 0"]);
     has("01000a0900\n", &["refused 2 0"]);
     let full = format!("{BOARD}{}", JOB.repeat(64));
-    has(&full, &["balance -54 10", "refused 6 0"]);
+    has(&full, &["balance -54 10", "refused 16 0"]);
     has(&format!("{full}{JOB}"), &["refused 3 64"]);
     set_has([1, 1], &[f(11), b(6, 0)], &["refused 4 1"]);
     set_has([1, 1], &[f(1_000_001)], &["refused 4 0"]);
@@ -140,5 +142,5 @@ fn refused_texts() {
 #[test]
 fn wide_balances() {
     let wide = format!("01ffff0808\n{}", f(65_535).repeat(64));
-    has(&wide, &["balance -3669960 524280", "refused 6 0"]);
+    has(&wide, &["balance -3669960 524280", "refused 14 0"]);
 }

@@ -5,7 +5,7 @@ use independent::check::{check_plan, feasible};
 use independent::gen;
 use independent::planner::{
     moves, plan, plan_into, split, starting_balance, Allowed, Board, Job, Kind, Moves, PerKind,
-    Plan, Reason, Refusal, Slice,
+    Plan, Reason, Refusal, Shortage, Slice,
 };
 use independent::text::{plan_text, read};
 
@@ -79,7 +79,7 @@ fn answer(text: &str) -> String {
 #[test]
 fn sets_on_both_sides_of_a_limit() {
     type Row = (i64, Vec<Job>, Result<&'static [(i64, i64)], Refusal>);
-    let six = Err(Refusal::new(Reason::NoRoom, 0));
+    let short = |shortage| Err(Refusal::new(Reason::NoRoom(shortage), 0));
     let five = Err(Refusal::new(Reason::DoesNotFit, 0));
     let three = b(6, 16);
     let rows: Vec<Row> = vec![
@@ -88,7 +88,7 @@ fn sets_on_both_sides_of_a_limit() {
         (1, vec![b(9, 6), b(8, 6)], Ok(&[(0, 6), (3, 4)])),
         (1, vec![b(6, 16), f(6)], Ok(&[(4, 6), (6, 0)])),
         (1, vec![b(10, 10); 2], Ok(&[(0, 10), (10, 0)])),
-        (1, vec![b(10, 10); 3], six),
+        (1, vec![b(10, 10); 3], short(Shortage::Other)),
         (1, vec![f(10)], Ok(&[(10, 0)])),
         (1, vec![f(11)], five),
         (1, vec![b(11, 11)], five),
@@ -98,7 +98,11 @@ fn sets_on_both_sides_of_a_limit() {
             vec![three, three, three, f(8)],
             Ok(&[(4, 6), (4, 6), (4, 6), (8, 0)]),
         ),
-        (2, vec![three, three, three, f(9)], six),
+        (
+            2,
+            vec![three, three, three, f(9)],
+            short(Shortage::Kind(Kind::First)),
+        ),
         (1, vec![b(7, 7)], Ok(&[(7, 0)])),
         (1, vec![b(11, 10)], Ok(&[(0, 10)])),
     ];
@@ -350,7 +354,24 @@ fn checks_in_order() {
         refusal(board(10, 1, 1), &[f(10), f(10), b(11, 12), s(11)]),
         (5, 2)
     );
-    assert_eq!(refusal(board(10, 1, 1), &[f(10), f(10), b(11, 10)]), (6, 0));
+    assert_eq!(
+        refusal(board(10, 1, 1), &[f(10), f(10), b(11, 10)]),
+        (14, 0)
+    );
+    // 5, and before it 4, comes before each refusal for room.
+    for (number, mut jobs) in [
+        (6, vec![f(6), f(6), s(6), s(6)]),
+        (14, vec![f(6), f(6)]),
+        (15, vec![s(6), s(6)]),
+        (16, vec![b(10, 10); 3]),
+    ] {
+        let last = jobs.len();
+        assert_eq!(refusal(board(10, 1, 1), &jobs), (number, 0));
+        jobs.push(f(11));
+        assert_eq!(refusal(board(10, 1, 1), &jobs), (5, last));
+        jobs.push(f(0));
+        assert_eq!(refusal(board(10, 1, 1), &jobs), (4, last + 1));
+    }
     assert!(plan(&board(10, 1, 1), &[b(1, 1_000_000)]).is_ok());
 }
 
@@ -383,6 +404,14 @@ fn lent_tables() {
         assert!(share_table.iter().all(|share| *share == blank));
         assert!(slice_table.iter().all(|slice| *slice == mark));
     }
-    let room = Err(Refusal::new(Reason::NoRoom, 0));
-    assert_eq!(plan_into(&board, &[b(10, 10); 3], &mut [], &mut []), room);
+    // Each refusal for room comes before the tables are looked at.
+    for (jobs, shortage) in [
+        (vec![f(6), f(6), s(6), s(6)], Shortage::Both),
+        (vec![f(6), f(6)], Shortage::Kind(Kind::First)),
+        (vec![s(6), s(6)], Shortage::Kind(Kind::Second)),
+        (vec![b(10, 10); 3], Shortage::Other),
+    ] {
+        let room = Err(Refusal::new(Reason::NoRoom(shortage), 0));
+        assert_eq!(plan_into(&board, &jobs, &mut [], &mut []), room);
+    }
 }

@@ -43,6 +43,7 @@ fn records() {
         "100000",
         "110000060000",
         "1f0600",
+        "1f1000",
         "ff",
         "01",
         "02",
@@ -84,7 +85,7 @@ fn first_bad_line_decides_and_on_it_the_lowest_of_the_order() {
 #[test]
 fn sixty_five_jobs() {
     let full = format!("{BOARD}{}", JOB.repeat(64));
-    refused(&full, 6, 0);
+    refused(&full, 16, 0);
     refused(&format!("{full}{JOB}"), 3, 64);
     refused(&format!("{full}{JOB}\n"), 3, 64);
     refused(&format!("{full}02000000000000000000\n"), 3, 64);
