@@ -62,8 +62,8 @@ compared() {
 }
 
 quietly cargo build --release --offline --quiet --manifest-path independent/Cargo.toml || exit
-compared 54 named
-compared 1988 --every 61 small
+compared 95 named
+compared 2368 --every 61 small
 compared 3000 gen 1 3000
 
 echo "$seen answers"

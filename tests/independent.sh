@@ -5,7 +5,7 @@
 set -u -o pipefail
 cd "$(dirname "$0")/../independent" || exit 2
 log=$(cargo test --release --offline --color never 2>&1) || { printf '%s\n' "$log" && exit 1; }
-printf '%s\n' "$log" | awk -v least=82 -v files="$(echo tests/*.rs)" '
+printf '%s\n' "$log" | awk -v least=94 -v files="$(echo tests/*.rs)" '
     function wrong(what) { print what; bad = 1 }
     $1 == "Running" { file = $2 }
     /^test result: / {

@@ -8,6 +8,9 @@ use crate::examine::{examine, Counts};
 use crate::family::Family;
 use crate::text;
 
+/// So many random texts reach each refusal, whatever the seed.
+const ENOUGH: u64 = 20_000;
+
 /// A text whose answer from the other planner is not right.
 #[derive(Clone, Debug)]
 pub struct Failure {
@@ -50,6 +53,19 @@ pub fn run(
         }
     }
     Ok(Ok(counts))
+}
+
+/// What the counts of a family lack: so many random texts that do not reach each
+/// refusal compare less than they are there for.
+pub fn lack(family: Family, counts: &Counts) -> Option<String> {
+    let unreached = counts.unreached();
+    match family {
+        Family::Random(stream) if stream.count >= ENOUGH && !unreached.is_empty() => Some(format!(
+            "{family}: no text of {} reached refusal {unreached:?}",
+            stream.count
+        )),
+        _ => None,
+    }
 }
 
 /// The texts, and last the line that says where and what.

@@ -128,7 +128,7 @@ fn long(rng: &mut Rng, some: impl FnOnce(&mut Rng) -> Lines, more: &[u8]) -> Vec
 
 /// A short text of little sense.
 fn scrap(rng: &mut Rng) -> Vec<u8> {
-    const FIXED: [&[u8]; 24] = [
+    const FIXED: [&[u8]; 25] = [
         b"",
         b"\n",
         b"\n\n",
@@ -152,6 +152,7 @@ fn scrap(rng: &mut Rng) -> Vec<u8> {
         b"02000000000600000009\n01000a0101\n",
         b"100000\n",
         b"1f0600\n",
+        b"1f1000\n",
         b"0x000a0101\n",
     ];
     match rng.below(4) {

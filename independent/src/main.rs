@@ -99,7 +99,10 @@ fn run_compare(family: Family) -> io::Result<ExitCode> {
     let mut next = || frames::read(&mut from)?.ok_or_else(ended);
     let verdict = match family {
         Family::Lines(stream) => told(compare_lines::run(stream, |_| next())?),
-        _ => told(compare::run(family, |_| next())?),
+        _ => match compare::run(family, |_| next())? {
+            Ok(counts) => compare::lack(family, &counts).map_or(Ok(counts.to_string()), Err),
+            Err(failure) => Err(failure.to_string()),
+        },
     };
     match verdict {
         Ok(_) if frames::read(&mut from)?.is_some() => {

@@ -3,6 +3,7 @@
 
 use independent::check::check_plan;
 use independent::compare;
+use independent::examine::REFUSALS;
 use independent::family::Family;
 use independent::gen;
 use independent::text::plan_text;
@@ -75,11 +76,14 @@ fn a_wrong_answer_is_found() {
 /// The planner's own answers to the named and the small sets hold too.
 #[test]
 fn named_and_small_sets() {
-    for (name, plans) in [("named", 18), ("small", 50_000)] {
+    for (name, plans, refusals) in [("named", 33, 4), ("small", 50_000, 4_000)] {
         let family = Family::parse(&[name]).unwrap();
         let counts = compare::run(family, |input| Ok(plan_text(input))).unwrap();
         let counts = counts.unwrap_or_else(|failure| panic!("{failure}"));
         assert!(counts.plans >= plans, "{counts}");
+        for number in [6, 14, 15, 16] {
+            assert!(counts.refusals[number] >= refusals, "{counts}");
+        }
     }
 }
 
@@ -90,7 +94,7 @@ fn every_answer_is_reached() {
     let counts = counts.unwrap_or_else(|failure| panic!("{failure}"));
     assert!(counts.plans > 2_000 && counts.plans_with_movers > 1_000);
     assert!(counts.plans_full_on_both > 200 && counts.plans_with_stretched > 1_000);
-    for number in [1, 2, 3, 4, 5, 6, 8, 9, 10] {
+    for number in REFUSALS {
         assert!(counts.refusals[number] > 100, "refusal {number}");
     }
     assert!(counts.refused_for_room_with_stretched > 100);

@@ -40,7 +40,7 @@ fn the_facts_of_this_planner_agree() {
     let counts = agrees("compare-facts named", &[PROGRAM, "facts"]);
     assert_eq!(
         counts,
-        "texts 54\naccepted 18\nrefused for room 5\nrefused otherwise 31\n"
+        "texts 95\naccepted 33\nrefused for room 31\nrefused otherwise 31\n"
     );
     let counts = agrees("compare-facts --every 10 gen 3 95 40", &[PROGRAM, "facts"]);
     assert!(counts.starts_with("texts 10\n"), "{counts}");

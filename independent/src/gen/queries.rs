@@ -49,7 +49,7 @@ pub fn query(seed: u64, index: u64) -> Query {
 
 /// Drops, adds or exchanges lines, or damages one.
 fn damaged(rng: &mut Rng, mut lines: Lines) -> Lines {
-    const ADDED: [&[u8]; 9] = [
+    const ADDED: [&[u8]; 10] = [
         b"",
         b"01000a0101",
         b"02000000000600000009",
@@ -59,6 +59,7 @@ fn damaged(rng: &mut Rng, mut lines: Lines) -> Lines {
         b"1200010000000001",
         b"12ff010000000001",
         b"1f0600",
+        b"1f1000",
     ];
     let count = lines.len() as u64;
     let at = rng.below(count) as usize;
@@ -133,7 +134,7 @@ fn at_row(rng: &mut Rng, row: &Row) -> [u64; 3] {
 
 /// A short text of little sense.
 fn scrap(rng: &mut Rng) -> Vec<u8> {
-    const FIXED: [&[u8]; 22] = [
+    const FIXED: [&[u8]; 23] = [
         b"",
         b"\n",
         b"\n\n",
@@ -152,6 +153,7 @@ fn scrap(rng: &mut Rng) -> Vec<u8> {
         b"01000a0101\n1000\n",
         b"01000a0101\n10ffff\n",
         b"01000a0101\n1f0600\n",
+        b"01000a0101\n1f1000\n",
         b"100000\n01000a0101\n",
         b"110000000000\n",
         b"12ff010000000001\n",

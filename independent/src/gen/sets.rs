@@ -73,15 +73,29 @@ impl Draft {
         self.window * self.cores[kind]
     }
 
-    /// Whether a split in fractions exists for the first `count` jobs.
-    fn feasible(&self, count: usize) -> bool {
-        let jobs = self.jobs[..count].iter().map(Entry::demand).collect();
+    /// The set of the first `count` jobs, for the checker.
+    fn set(&self, count: usize) -> Set {
         Set {
             window: self.window,
             cores: self.cores,
-            jobs,
+            jobs: self.jobs[..count].iter().map(Entry::demand).collect(),
         }
-        .feasible_with_less([0, 0])
+    }
+
+    /// Whether a split in fractions exists for the first `count` jobs.
+    fn feasible(&self, count: usize) -> bool {
+        self.set(count).feasible_with_less([0, 0])
+    }
+
+    /// Adds so many ticks of jobs on one kind, each of them anywhere, so that the
+    /// other jobs stay in order.
+    fn fill(&mut self, rng: &mut Rng, kind: usize, mut ticks: u64) {
+        while ticks > 0 && self.jobs.len() < 64 {
+            let cost = ticks.min(rng.range(self.window.div_ceil(2), self.window));
+            let at = rng.below(self.jobs.len() as u64 + 1) as usize;
+            self.jobs.insert(at, Entry::only(kind, cost));
+            ticks -= cost;
+        }
     }
 }
 
@@ -117,11 +131,12 @@ fn board(rng: &mut Rng, count: u64) -> (Draft, u64) {
 
 /// A set within all limits of numbers (refusals 1 to 5 do not occur).
 pub fn inside(rng: &mut Rng) -> Draft {
-    match rng.below(10) {
+    match rng.below(12) {
         0..=1 => hidden_split(rng),
         2 => many_slices(rng),
         3 => alike(rng),
         4..=5 => heap(rng),
+        6..=7 => at_limits(rng),
         _ => {
             let mut draft = heap(rng);
             fill_to_edge(rng, &mut draft);
@@ -299,6 +314,45 @@ fn fill_to_edge(rng: &mut Rng, draft: &mut Draft) {
     if rng.one_in(2) {
         rng.shuffle(&mut draft.jobs);
     }
+}
+
+/// Jobs that lean to one kind, which is then filled until its ticks at home, or
+/// those at the far ends, are about its room, or until its room lies anywhere
+/// between the two; and then the other kind until its ticks at home, or those where
+/// the steps stop, are about its room.
+fn at_limits(rng: &mut Rng) -> Draft {
+    let (mut draft, scale) = board(rng, 24);
+    let kind = rng.below(2) as usize;
+    for _ in 0..rng.range(0, 12) {
+        let job = match rng.below(3) {
+            0 => stretched(rng, draft.window, scale, kind),
+            1 => close(rng, draft.window, scale, kind),
+            _ => any_job(rng, draft.window, scale, kind),
+        };
+        draft.jobs.push(job);
+    }
+    let set = draft.set(draft.jobs.len());
+    let (home, far) = (set.at_home()[kind], set.at_far_ends(kind)[kind]);
+    let (ticks, limit) = match rng.below(3) {
+        0 => (home, about(rng, set.room(kind))),
+        1 => (far, about(rng, set.room(kind))),
+        _ => (rng.range(far, home), set.room(kind)),
+    };
+    draft.fill(rng, kind, limit.saturating_sub(ticks));
+    let set = draft.set(draft.jobs.len());
+    let ticks = if rng.one_in(3) {
+        set.at_home()
+    } else {
+        set.at_stop(kind)
+    };
+    let limit = about(rng, set.room(1 - kind));
+    draft.fill(rng, 1 - kind, limit.saturating_sub(ticks[1 - kind]));
+    draft
+}
+
+/// A room, or a tick more, or now and then a tick less.
+fn about(rng: &mut Rng, room: u64) -> u64 {
+    rng.pick(&[room, room, room, room + 1, room + 1, room + 1, room - 1])
 }
 
 /// The last number from `low` to `high` that passes, where all up to some
