@@ -37,14 +37,17 @@ enum clampfern_refusal {
     CLAMPFERN_REFUSAL_TOO_MANY_JOBS = 3, /* more jobs than there may be */
     CLAMPFERN_REFUSAL_COST = 4,          /* a cost outside its limits */
     CLAMPFERN_REFUSAL_TOO_LONG = 5,      /* a job that fits the window on no kind where it may run */
-    CLAMPFERN_REFUSAL_ROOM = 6,          /* jobs for which the board has not enough room */
+    CLAMPFERN_REFUSAL_BOTH_OVER = 6,     /* no room: each kind has more than it can take, before any job is moved */
     CLAMPFERN_REFUSAL_TOO_SHORT = 7,     /* a buffer that is shorter than what goes into it: said by a count of 0, by no line and no code */
     CLAMPFERN_REFUSAL_NOT_HEX = 8,       /* a line that is not pairs of hexadecimal digits, or a text that is too long */
     CLAMPFERN_REFUSAL_RECORD = 9,        /* a line that is no record of its text, or bytes that are not a packed table */
     CLAMPFERN_REFUSAL_ORDER = 10,        /* a line that is out of its text's order, one too many, or one that is missing */
     CLAMPFERN_REFUSAL_BEYOND = 11,       /* a tick of the window's length or more, or a kind or a core that the board lacks */
     CLAMPFERN_REFUSAL_BAD_ROW = 12,      /* a slice with a length of 0, or outside the window or the cores */
-    CLAMPFERN_REFUSAL_COLLIDES = 13      /* a slice that shares a tick with an earlier one on the same core */
+    CLAMPFERN_REFUSAL_COLLIDES = 13,     /* a slice that shares a tick with an earlier one on the same core */
+    CLAMPFERN_REFUSAL_FIRST_OVER = 14,   /* no room: the first kind is short, whatever is moved to the second */
+    CLAMPFERN_REFUSAL_SECOND_OVER = 15,  /* no room: the second kind is short, whatever is moved to the first */
+    CLAMPFERN_REFUSAL_OTHER_OVER = 16    /* no room: a kind was over and fits once jobs are moved, but the other then does not */
 };
 
 #ifdef __cplusplus

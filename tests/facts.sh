@@ -19,6 +19,7 @@ times() { printf " $2%.0s" $(seq "$1"); }
 
 twice=02000000000a0000000a # B(10,10)
 six=02000000000600000010   # B(6,16)
+ten=02000000001000000006   # B(16,6)
 
 says 'one mover' "$(<examples/two-jobs.txt)" 'balance -2 10;moves 0 0 0;moves 1 2 0'
 says 'even movers' "01000a0202 $six $six $six 02010000000800000000" 'balance -6 20;moves 0 2 0;moves 1 2 1;moves 2 2 1;moves 3 0 0'
@@ -29,8 +30,9 @@ says 'two cores of the second kind' "01000a0102$(times 3 02020000000000000006)" 
 says '64 jobs' "01000a0808$(times 64 02020000000000000001)" "balance 80 16$(for ((i = 0; i < 64; i++)); do printf ';moves %d 0 0' "$i"; done)"
 says 'no jobs' 01000a0101 'balance 10 10'
 
-says 'no room on the first kind' "01000a0101 $twice $twice $twice" 'balance -20 10;refused 6 0'
-says 'no room for a stretched job' "01000a0202 $six $six $six 02010000000900000000" 'balance -7 20;refused 6 0'
+says 'no room on the second kind for what the first has to give' "01000a0101 $twice $twice $twice" 'balance -20 10;refused 16 0'
+says 'no room for a stretched job on the first kind' "01000a0202 $six $six $six 02010000000900000000" 'balance -7 20;refused 14 0'
+says 'no room for a stretched job on the second kind' "01000a0202 $ten $ten $ten 02020000000000000009" 'balance 20 -7;refused 15 0'
 says 'no room on either' '01000a0101 02010000000600000000 02010000000600000000 02020000000000000007 02020000000000000007' 'balance -2 -4;refused 6 0'
 
 says 'a window of 0' "0100000101 $six" 'refused 1 0'

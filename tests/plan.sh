@@ -84,6 +84,13 @@ answers 'the whole example' "$plan" printf %s "$example"
 answers 'in capitals' "$plan" printf %s "${example^^}"
 answers 'no last line feed' "$plan" printf %s "${example%$'\n'}"
 answers 'in pieces' "$plan" pieces
+# The refusals that README shows.
+mapfile -t refused < <(sed -nE 's/^    (1f[0-9a-f]{4}) .*/\1/p' README.md)
+third() { printf %s "$example" && sed -n 2p examples/two-jobs.txt; }
+two_more() { printf %s "$example" && times 2 '02010000000600000000\n'; }
+answers 'a third job like job 0' "${refused[0]}"$'\n' third
+answers 'two more jobs on the first kind only' "${refused[1]}"$'\n' two_more
+
 answers 'no input' $'1f0a01\n' true
 answers '4,095 bytes' $'1f0801\n' digits 4095
 answers '4,096 bytes' $'1f0901\n' digits 4096

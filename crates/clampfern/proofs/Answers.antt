@@ -6,7 +6,7 @@
 use mathlib.Core.Path.{_≡_, refl}
 use mathlib.Core.Bool.{Bool, true, false, cond}
 use mathlib.Core.List.{List, _++_}
-use mathlib.Core.Logic.{_⊎_, inl, inr}
+use mathlib.Core.Logic.{_⊎_, inl, inr, ⊎-elim}
 use Prim.Native.Nat.{ℕ, _≤_, _<_}
 use native.Mathlib.Omega.{arith}
 use borrow.Author.Tests.{ltb-true, ltb-false}
@@ -19,7 +19,7 @@ use Rattle.model.specs.declared.Refusal.{Refusal}
 use Rattle.planner.specs.Plan.{Plan}
 use Rattle.planner.proofs.Causes.{plan-listed}
 use Rattle.planner.proofs.Demands.{listed-small}
-use Rattle.planner.proofs.PlanMoves.{plan-roomy}
+use Rattle.planner.proofs.PlanMoves.{plan-never-7}
 use Rattle.text.specs.Hex.{some}
 use Rattle.text.specs.Input.{Input, inputOf}
 use Rattle.text.specs.Output.{Writes}
@@ -30,15 +30,16 @@ use Rattle.clampfern.specs.Said.{saidOf}
 use Rattle.clampfern.proofs.Refusals.{text-listed, set-few}
 use Rattle.clampfern.proofs.Says.{plan-said, refusal-said}
 
--- The numbers are 1 to 10 without 7, and no place is above the last line that is read.
+-- The numbers are 1 to 10 without 7, and 14 to 16. No place is above the last line that is read.
 pub record SmallRefusal (number place : ℕ) : Type 0 where
   pub some : 1 ≤ number
-  pub most : number ≤ 10
+  pub most : number ≤ 16
   pub never-7 : number ≡ 7 → ⊥
+  pub never-11-to-13 : (number ≤ 10) ⊎ (14 ≤ number)
   pub place-most : place ≤ lastLine
 
 listed-so : {number place : ℕ} → 1 ≤ number → number ≤ 10 → (number ≡ 7 → ⊥) → place ≤ lastLine → SmallRefusal number place
-listed-so a b c d = record { some = a; most = b; never-7 = c; place-most = d }
+listed-so a b c d = record { some = a; most = omega arith; never-7 = c; never-11-to-13 = inl b; place-most = d }
 
 pub text-listed-small : {text : List ℕ} {number place : ℕ} → TextListed text number place → SmallRefusal number place
 text-listed-small (over cause) = listed-so (omega arith) (omega arith) (λ e. omega arith) (omega arith)
@@ -48,9 +49,15 @@ text-listed-small (job-first j at cause) = listed-so (omega arith) (omega arith)
 text-listed-small (board-later i b at later cause) = listed-so (omega arith) (omega arith) (λ e. omega arith) (omega (arith, at .most))
 text-listed-small (empty cause) = listed-so (omega arith) (omega arith) (λ e. omega arith) (omega arith)
 text-listed-small (many j at cause) = listed-so (omega arith) (omega arith) (λ e. omega arith) (omega arith)
-text-listed-small (of-set input is few most listed) =
+text-listed-small (of-set input is few not-space listed) =
     let small = listed-small listed in
-    listed-so (omega arith) (omega arith) (λ e. omega arith) (omega arith)
+    record {
+      some = small .0;
+      most = small .2;
+      never-7 = not-space;
+      never-11-to-13 = ⊎-elim (λ low. inl (omega arith)) inr (small .1);
+      place-most = omega (arith, small .3);
+    }
 
 module _ (text : List ℕ) where
   abbrev pub answerOf : Answer Plan
@@ -62,7 +69,7 @@ module _ (text : List ℕ) where
       go : (x : Answer Input) → inputOf text ≡ x → andThen x planned ≡ refused number place → TextListed text number place
       go (given input) set e =
           let few = set-few text input set in
-          of-set input set few (plan-roomy (input .board) (length (input .jobs)) (input .jobs) few number place e)
+          of-set input set few (plan-never-7 (input .board) (length (input .jobs)) (input .jobs) few number place e)
           (plan-listed (input .board) (input .jobs) jobsMost slicesMost number place e)
       go (refused m q) none-read e =
           let a : m ≡ number = cc in

@@ -5,8 +5,9 @@
 -- What bytes say is `saidOf` (specs/Said.antt), a reader by the rules of the format: what is neither a plan nor a refusal says nothing.
 -- The other words are those of the model, as on the planner's page: DoneBy (one job's work), Runs (a tick of a slice), SameCore, ticksIn, Split.
 -- Assumes nothing.
+use mathlib.Core.Bool.{true, false≢true}
 use mathlib.Core.List.{List}
-use mathlib.Core.Logic.{_↔_, ⊎-elim}
+use mathlib.Core.Logic.{_↔_, Iff·trans, ⊎-elim}
 use mathlib.Core.Path.{_≡_, refl, sym, ap, _∙_}
 use Prim.Native.Nat.{ℕ, _+_, _-_, _*_, _≤_, _<_}
 use native.Mathlib.Omega.{arith}
@@ -17,7 +18,7 @@ use Rattle.model.specs.Board.{roomOf}
 use Rattle.model.specs.Empty.{noJob, noSlice}
 use Rattle.model.specs.Limits.{jobsMost, slicesMost}
 use Rattle.model.specs.Movers.{movers, unevens}
-use Rattle.model.specs.Refusal.{Answer, given, refused, andThen}
+use Rattle.model.specs.Refusal.{Answer, given, refused, andThen, roomRefusal}
 use Rattle.model.specs.Split.{Ticks, share, ticksOn, DoneBy, Split}
 use Rattle.model.specs.Timetable.{Runs, SameCore, Inside, ticksIn}
 use Rattle.model.specs.declared.Kind.{Kind}
@@ -27,13 +28,19 @@ use Rattle.model.specs.declared.Job.{Job}
 use Rattle.model.specs.declared.Refusal.the-variants.{TooShort}
 use Rattle.model.specs.declared.Slice.{Slice}
 use Rattle.model.proofs.Splits.{all-done-length, all-done-at}
+use Rattle.legal.specs.Lawful.{Lawful}
 use Rattle.legal.specs.Legal.{legalOf}
+use Rattle.legal.proofs.Lawful.{legal-lawful}
+use Rattle.split.specs.Causes.{BothOver, StillOver, OtherOver, RoomCause}
 use Rattle.split.specs.Promise.{stretchedOn}
 use Rattle.split.specs.Shares.{sharesOf}
-use Rattle.split.proofs.Demands.{demands, exactly}
+use Rattle.split.proofs.Causes.{six, fourteen, fifteen, sixteen}
+use Rattle.split.proofs.Demands.{room-only as only, exactly}
 use Rattle.slices.specs.Table.{tableOf}
-use Rattle.planner.specs.Plan.{Plan, countsIn}
+use Rattle.planner.specs.Listed.{room}
+use Rattle.planner.specs.Plan.{Plan}
 use Rattle.planner.specs.Promise.{GoodPlan}
+use Rattle.planner.proofs.Causes.{plan-listed, listed-plan, listed-cause}
 use Rattle.planner.proofs.Lent.{plan-room}
 use Rattle.planner.proofs.PlanLaws.{plan-shares, plan-kept}
 use Rattle.text.specs.Hex.{Maybe, none, some}
@@ -41,8 +48,8 @@ use Rattle.text.specs.Input.{Input, inputOf}
 use Rattle.text.specs.Output.{answerMost, Writes}
 use Rattle.text.specs.declared.Written.the-variants.{Bytes}
 use Rattle.clampfern.specs.Answer.{planned, answerText, Entered, Answered}
-use Rattle.clampfern.specs.Listed.{TextListed, of-set}
-use Rattle.clampfern.specs.Said.{saidOf}
+use Rattle.clampfern.specs.Listed.{TextListed, over, digits, unknown, job-first, board-later, empty, many, of-set}
+use Rattle.clampfern.specs.Said.{saidOf, roomSaid}
 use Rattle.clampfern.specs.declared.AnswerLines.{AnswerLines}
 use Rattle.clampfern.proofs.Answers.{SmallRefusal, text-listed-small, answerOf, answer-said, answer-listed, entry-cases, writes-put}
 use Rattle.clampfern.proofs.Causes.{listed-answer}
@@ -120,7 +127,7 @@ module _ (asked : List ℕ) {bytes : List ℕ} (answer : bytes ≡ answerText as
   pub refused-exactly : {number place : ℕ} → (saidOf bytes ≡ some (refused number place)) ↔ TextListed asked number place
   refused-exactly = (λ says. rw says at any-text-answered, λ listed. said ∙ rw (listed-answer asked listed))
 
-  -- The numbers of a refusal are 1 to 10 without 7, which a count of 0 stands for, and no place is above the last line that is read, 66.
+  -- The numbers of a refusal are 1 to 10 without 7, which a count of 0 stands for, and 14 to 16. No place is above the last line that is read, 66.
   pub refusal-small : {number place : ℕ} → saidOf bytes ≡ some (refused number place) → SmallRefusal number place
   refusal-small says = text-listed-small (refused-exactly .0 says)
 
@@ -191,28 +198,67 @@ module _ (asked : List ℕ) {bytes : List ℕ} (answer : bytes ≡ answerText as
     abbrev less : Kind → ℕ
     less kind = roomOf board kind - stretchedOn board js kind
 
-    for-room : saidOf bytes ≡ some (refused 6 0) → sharesOf board (length js) js ≡ refused 6 0
-    for-room says = plan-room board (length js) js jobsMost slicesMost (ap countsIn (told says))
+    for-room : roomSaid (saidOf bytes) ≡ roomRefusal (sharesOf board (length js) js)
+    for-room = rw said-of-rules (plan-room board (length js) js jobsMost slicesMost)
 
     -- Refused for room only if no split exists on the smaller board.
-    pub room-only : saidOf bytes ≡ some (refused 6 0) → Split (board .window) (less First) (less Second) js → ⊥
-    room-only says = rw (for-room says) at (demands board (length js) js) refl
+    pub room-only : roomSaid (saidOf bytes) ≡ true → Split (board .window) (less First) (less Second) js → ⊥
+    room-only = rw for-room (only board (length js) js)
 
     -- With no stretched job, exactly when no split exists at all.
     pub room-exactly : legalOf board (length js) js ≡ given tt
         → stretchedOn board js First ≡ 0 → stretchedOn board js Second ≡ 0
-        → (saidOf bytes ≡ some (refused 6 0))
+        → (roomSaid (saidOf bytes) ≡ true)
         ↔ (Split (board .window) (roomOf board First) (roomOf board Second) js → ⊥)
-    room-exactly legal none₁ none₂ =
-        let iff = exactly board (length js) js legal none₁ none₂ in
-        (λ says. iff .0 (for-room says), λ split. said ∙ rw (describes, iff .1 split))
+    room-exactly = rw for-room (exactly board (length js) js)
+
+    -- ==== Which kind was short. A refusal for room is one of four, and each of a legal set is given exactly for its cause (split's
+    -- specs/Causes.antt). At most one of these causes applies (`room-once` on the page of the split).
+    module _ (legal : legalOf board (length js) js ≡ given tt) where
+      law : Lawful board (length js) js
+      law = legal-lawful board (length js) js legal
+
+      caused : {number place : ℕ} → (number ≡ 7 → ⊥) → (saidOf bytes ≡ some (refused number place)) ↔ RoomCause board js number place
+      caused not-space = (
+        λ says. listed-cause board js jobsMost slicesMost law not-space (plan-listed board js jobsMost slicesMost _ _ (told says)),
+        λ cause. said-of-rules ∙ ap some (listed-plan board js jobsMost slicesMost (room law cause)),
+      )
+
+      -- 6: both kinds are over at home.
+      pub by-six : (saidOf bytes ≡ some (refused 6 0)) ↔ BothOver board js
+      by-six = Iff·trans (caused (λ e. omega arith)) (six board js)
+
+      -- 14: the first kind alone is over at home, and so it is with all its movable jobs at their far ends. 15: the same of the second.
+      pub by-fourteen : (saidOf bytes ≡ some (refused 14 0)) ↔ StillOver board js First
+      by-fourteen = Iff·trans (caused (λ e. omega arith)) (fourteen board js)
+
+      pub by-fifteen : (saidOf bytes ≡ some (refused 15 0)) ↔ StillOver board js Second
+      by-fifteen = Iff·trans (caused (λ e. omega arith)) (fifteen board js)
+
+      -- 16: one kind alone is over at home, and is not with all its movable jobs at their far ends, but the other is over where the steps
+      -- stopped. The one is then exactly full (`sixteen-full` on the page of the split).
+      pub by-sixteen : (saidOf bytes ≡ some (refused 16 0)) ↔ ((kind : Kind) × OtherOver board js kind)
+      by-sixteen = Iff·trans (caused (λ e. omega arith)) (sixteen board js)
 
   -- Only a text that describes a set is refused for room.
-  pub room-described : saidOf bytes ≡ some (refused 6 0) → (board : Board) × (js : List Job) × Describes asked board js
-  room-described says = of-six (refused-exactly .0 says)
+  pub room-described : roomSaid (saidOf bytes) ≡ true → (board : Board) × (js : List Job) × Describes asked board js
+  room-described e = go (answerOf asked) refl (rw said at e)
     where
-      of-six : TextListed asked 6 0 → (board : Board) × (js : List Job) × Describes asked board js
-      of-six (of-set input is few most listed) = (input .board, input .jobs, is)
+      -- No refusal of a line has such a number.
+      of-set-only : {number place : ℕ} → TextListed asked number place → roomRefusal {A = Plan} (refused number place) ≡ true
+          → (board : Board) × (js : List Job) × Describes asked board js
+      of-set-only (over cause) e = absurd (false≢true e)
+      of-set-only (digits i at cause) e = absurd (false≢true e)
+      of-set-only (unknown i r at is cause) e = absurd (false≢true e)
+      of-set-only (job-first j at cause) e = absurd (false≢true e)
+      of-set-only (board-later i b at later cause) e = absurd (false≢true e)
+      of-set-only (empty cause) e = absurd (false≢true e)
+      of-set-only (many j at cause) e = absurd (false≢true e)
+      of-set-only (of-set input is few not-space listed) e = (input .board, input .jobs, is)
+
+      go : (x : Answer Plan) → answerOf asked ≡ x → roomRefusal x ≡ true → (board : Board) × (js : List Job) × Describes asked board js
+      go (given p) is e = absurd (false≢true e)
+      go (refused number place) is e = of-set-only (answer-listed asked number place is) e
 
 -- So every call from C with bytes enough gives a plan or a refusal, and the theorems above hold of what it says.
 pub entry-answered : {asked before after : List ℕ} {count : ℕ} → Entered asked before after count → 0 < count

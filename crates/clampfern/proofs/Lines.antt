@@ -103,7 +103,7 @@ module _ {board : Board} {n : ℕ} {js : List Job} {s1 s2 rows : List ℕ} {r : 
 
     -- Its place is a job, or the count of all.
     pub columns-place : placeOf refusal < 256
-    columns-place = omega (arith, listed-small (plan-listed board js jobsMost slicesMost _ _ plan-refused) .2)
+    columns-place = omega (arith, listed-small (plan-listed board js jobsMost slicesMost _ _ plan-refused) .3)
 
 -- ---- what was read
 plan-seen : (board : Board) (n : ℕ) (js : List Job) (m k : ℕ) → planOf board n (map seen js) m k ≡ planOf board n js m k

@@ -51,5 +51,5 @@ pub data TextListed (text : List ℕ) : (number place : ℕ) → Type 0 where
   many : (j : Job) → Reached text lastLine → lineSays lastLine (lineAt text lastLine) ≡ given (OfJob j) → TextListed text 3 jobsMost
   -- A text that describes a set has the refusals of the set, but never 3, since its jobs were counted as they were read, nor 7, since the tables
   -- inside are long enough for every set.
-  of-set : {number place : ℕ} (input : Input) → inputOf text ≡ given input → length (input .jobs) ≤ jobsMost → number ≤ 6
+  of-set : {number place : ℕ} (input : Input) → inputOf text ≡ given input → length (input .jobs) ≤ jobsMost → (number ≡ 7 → ⊥)
       → Listed (input .board) (input .jobs) jobsMost slicesMost number place → TextListed text number place

@@ -9,14 +9,15 @@
 --   planRead     the records after the counts: a share for each job in order, then each slice, as many as counted and no other
 --   recordsSay   what the records of an answer say
 --   saidOf       what bytes say: a plan, or one refusal by its number and place; anything else says nothing
+--   roomSaid     whether that is a refusal for room
 -- Assumes nothing.
-use mathlib.Core.Bool.{cond, _&&_}
+use mathlib.Core.Bool.{Bool, false, cond, _&&_}
 use mathlib.Core.List.{List, [], _∷_, map}
 use Prim.Native.Nat.{ℕ, _+_}
 use lib.Dec.{eqb}
 use lib.ListN.{length, take, drop}
 use Rattle.model.specs.Packed.{kindNumber}
-use Rattle.model.specs.Refusal.{Answer, given, refused}
+use Rattle.model.specs.Refusal.{Answer, given, refused, roomRefusal}
 use Rattle.model.specs.Split.{Ticks, share}
 use Rattle.model.specs.declared.Kind.{Kind}
 use Rattle.model.specs.declared.Kind.the-variants.{First, Second}
@@ -70,3 +71,7 @@ recordsSay (r ∷ rs) =
 
 unfoldable pub saidOf : List ℕ → Maybe (Answer Plan)
 saidOf text = thenRead (allRead (map bytesOf (linesOf text))) recordsSay
+
+abbrev pub roomSaid : Maybe (Answer Plan) → Bool
+roomSaid none = false
+roomSaid (some x) = roomRefusal x

@@ -3,6 +3,7 @@
 -- that is wrong by one in this clause and in no other, and is refuted; its name ends in `-not`. A slip in the clause makes one of the two false.
 -- The window is 10, and 2 where a tick is halved. The lines that are held, in this order:
 --   Limits                              the numbers of docs/SPEC.md
+--   roomRefusal                         each of its four numbers, and those beside them
 --   coresOf, roomOf                     each kind by its own count
 --   Inside                              some, ends, core, job
 --   Runs, Apart                         the first tick, the last, and the one behind it
@@ -27,6 +28,7 @@ use Rattle.model.specs.Board.{coresOf, roomOf}
 use Rattle.model.specs.Columns.{jobAt, jobsIn, costOn, jobFirst, jobSecond, jobBoth}
 use Rattle.model.specs.Terms.{seen}
 use Rattle.model.specs.Packed.{packOf, sliceIn}
+use Rattle.model.specs.Refusal.{refused, roomRefusal}
 use Rattle.model.specs.Movers.{isMover, isEven, movers, unevens}
 use Rattle.model.specs.Split.{Ticks, share, ticksOn, DoneBy, AllDone, ticksOf, Split, WholeSplit}
 use Rattle.model.specs.Timetable.{Runs, Apart, SameCore, Inside, ticksIn, Timetable}
@@ -58,6 +60,11 @@ limits-are = refl
 
 pub slices-most : jobsMost + 2 * (coresMost + coresMost) ≡ slicesMost + 2
 slices-most = refl
+
+-- ==== roomRefusal
+pub room-numbers : map (λ (number : ℕ). roomRefusal {A = ℕ} (refused number 0)) (5 ∷ 6 ∷ 7 ∷ 13 ∷ 14 ∷ 15 ∷ 16 ∷ 17 ∷ [])
+    ≡ false ∷ true ∷ false ∷ false ∷ true ∷ true ∷ true ∷ false ∷ []
+room-numbers = refl
 
 pub cores-are : coresOf (board 2 3) First ∷ coresOf (board 2 3) Second ∷ [] ≡ 2 ∷ 3 ∷ []
 cores-are = refl

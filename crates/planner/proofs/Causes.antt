@@ -2,14 +2,15 @@
 -- listed. The checks come first, by the ways through them (legal/proofs/CheckByCheck.antt), then the steps, then the lent tables. Assumes nothing.
 --   plan-listed    a refusal of the plan is listed, with its place and its cause
 --   listed-plan    what is listed is the refusal of the plan
+--   listed-cause   a refusal of a lawful set other than 7 is one for room
 --   short-tables, lawful-left   tables that are refused may be too short, and a lawful set is refused for room or for such tables
-use mathlib.Core.Path.{_≡_, refl}
-use mathlib.Core.Bool.{Bool, true, false, cond, _||_}
+use mathlib.Core.Path.{_≡_, refl, ap}
+use mathlib.Core.Bool.{_||_}
 use mathlib.Core.List.{List}
 use mathlib.Core.Logic.{_⊎_, inl, inr, ⊎-elim}
 use Prim.Native.Nat.{ℕ, _<_}
 use native.Mathlib.Omega.{arith}
-use lib.Dec.{leb, ltb}
+use lib.Dec.{ltb}
 use lib.ListN.{length}
 use Rattle.rows.proofs.Lists.{all-map}
 use Rattle.rows.proofs.Lowest.{none-lowest, lowest-none, lowest-is, lowest-of}
@@ -28,13 +29,13 @@ use Rattle.legal.specs.Lawful.{Lawful}
 use Rattle.legal.specs.Legal.{badCost, tooLong, legalOf}
 use Rattle.legal.proofs.CheckByCheck.{outside-tells, is-within, not-out, Passed, Ran, window-out, cores-out, jobs-many, cost-bad, job-long, all-passed, legal-ran, ran-legal}
 use Rattle.legal.proofs.Lawful.{legal-lawful, lawful-legal}
+use Rattle.split.specs.Causes.{RoomCause}
 use Rattle.split.specs.Promise.{Accepted}
-use Rattle.split.specs.Steps.{hereSum, thereSum}
-use Rattle.split.specs.Shares.{sharesSeen, settled, byOver}
-use Rattle.split.specs.Rows.{Row}
+use Rattle.split.proofs.Causes.{refused-for-room}
+use Rattle.split.proofs.Demands.{split-caused}
 use Rattle.slices.specs.Table.{tableOf}
 use Rattle.planner.specs.Listed.{BadCost, TooLong, Sound, stepsOn, ShortTables, Listed, window, cores, many, cost, long, room, space}
-use Rattle.planner.specs.Plan.{Plan, fitted, planOf}
+use Rattle.planner.specs.Plan.{Plan, planFrom, fitted, planOf}
 use Rattle.planner.proofs.PlanLaws.{shares-accepted, accepted-few}
 
 -- ---- what the checks of one job tell
@@ -48,30 +49,9 @@ long-tells w (Both c1 c2) = and-tells (less-tells w (c1 .0)) (less-tells w (c2 .
 long-tells w (OnlyFirst c1) = less-tells w (c1 .0)
 long-tells w (OnlySecond c2) = less-tells w (c2 .0)
 
--- ---- the steps refuse by number 6 alone
-abbrev ForRoom : Answer (List Ticks) → Type 0
-ForRoom (given ss) = Unit {0}
-ForRoom (refused number place) = (number ≡ 6) × (place ≡ 0)
-
-settled-room : (k : Kind) (here away : ℕ) (rs : List Row) → ForRoom (settled k here away rs)
-unfolding settled
-settled-room k here away rs = go (leb (hereSum rs) here) (leb (thereSum rs) away)
-  where
-    go : (s t : Bool) → ForRoom (cond s (cond t (given (sharesSeen k rs)) (refused 6 0)) (refused 6 0))
-    go true true = tt
-    go true false = (refl, refl)
-    go false t = (refl, refl)
-
-over-room : (s t : Bool) (w room1 room2 : ℕ) (js : List Job) → ForRoom (byOver s t w room1 room2 js)
-unfolding byOver
-over-room true true w room1 room2 js = (refl, refl)
-over-room true false w room1 room2 js = settled-room First room1 room2 _
-over-room false true w room1 room2 js = settled-room Second room2 room1 _
-over-room false false w room1 room2 js = tt
-
 -- ---- how a set that passes the checks goes on: the steps may find no room, and a lent table may be too short
 data Went (board : Board) (js : List Job) (m k : ℕ) : Answer Plan → Type 0 where
-  no-room : stepsOn board js ≡ refused 6 0 → Went board js m k (refused 6 0)
+  no-room : {number place : ℕ} → RoomCause board js number place → Went board js m k (refused number place)
   no-space : (ss : List Ticks) → stepsOn board js ≡ given ss → (m < length js) ⊎ (k < length (tableOf (board .window) ss))
       → Went board js m k (refused 7 0)
   planned : (p : Plan) → Went board js m k (given p)
@@ -88,13 +68,13 @@ module _ (board : Board) (js : List Job) where
   space-tells m k ss = or-tells (less-tells m (length ss)) (less-tells k (length (tableOf (board .window) ss)))
 
   plan-went : (m k : ℕ) → Lawful board (length js) js → Went board js m k (planOf board (length js) js m k)
-  plan-went m k law = rw (lawful-legal board (length js) js law) (go (stepsOn board js) refl (over-room _ _ (board .window) _ _ js))
+  plan-went m k law = rw (lawful-legal board (length js) js law) (go (stepsOn board js) refl)
     where
-      go : (x : Answer (List Ticks)) → stepsOn board js ≡ x → ForRoom x
+      go : (x : Answer (List Ticks)) → stepsOn board js ≡ x
           → Went board js m k (andThen x (λ (ss : List Ticks). fitted m k (record { shares = ss; slices = tableOf (board .window) ss })))
-      go (given ss) is six =
+      go (given ss) is =
           by-test (Went board js m k) _ _ (space-tells m k ss) (λ short. no-space ss is (rw (shares-all ss law is) at short)) (λ _. planned _)
-      go (refused number place) is six = rw (six .0, six .1) (no-room (rw (six .0, six .1) at is))
+      go (refused number place) is = no-room (split-caused board (length js) js law is)
 
 -- ---- a refusal has its cause
 passed-sound : {board : Board} → Passed board → Sound board
@@ -116,7 +96,7 @@ module _ (board : Board) (js : List Job) (m k : ℕ) where
   ran-listed (all-passed _ _ _ _) = tt
 
   went-listed : {answer : Answer Plan} → Lawful board (length js) js → Went board js m k answer → ListedIn answer
-  went-listed law (no-room is) = room law is
+  went-listed law (no-room cause) = room law cause
   went-listed law (no-space ss is cause) = space ss law is cause
   went-listed law (planned p) = tt
 
@@ -148,9 +128,23 @@ module _ (board : Board) (js : List Job) (m k : ℕ) where
       ran-refused (job-long job (sound-passed sound) few
       (omega (arith, none-lowest badCost js (all-map _ _ (λ j good. untold (cost-tells j) good) js costs)))
       (lowest-is noJob (tooLong (board .window)) (TooLong (board .window)) (long-tells (board .window)) js job low) (low .there))
-  listed-plan (room law is) = rw (lawful-legal board (length js) js law, is)
+  listed-plan (room law cause) =
+      ap (λ (x : Answer (List Ticks)). andThen x (λ (ss : List Ticks). fitted m k (planFrom board ss)))
+      (refused-for-room board (length js) js law .1 cause)
   listed-plan (space ss law is cause) =
       rw (lawful-legal board (length js) js law, is, told (space-tells board js m k ss) (rw (shares-all board js ss law is) cause))
+
+  -- So a lawful set that is refused has no room, or no space.
+  lawful-went : {number place : ℕ} → Lawful board (length js) js → Listed board js m k number place → Went board js m k (refused number place)
+  lawful-went law listed = rw (listed-plan listed) at (plan-went board js m k law)
+
+  pub listed-cause : {number place : ℕ} → Lawful board (length js) js → (number ≡ 7 → ⊥) → Listed board js m k number place
+      → RoomCause board js number place
+  listed-cause law not-space listed = go (lawful-went law listed) not-space
+    where
+      go : {number place : ℕ} → Went board js m k (refused number place) → (number ≡ 7 → ⊥) → RoomCause board js number place
+      go (no-room cause) not-space = cause
+      go (no-space ss is cause) not-space = absurd (not-space refl)
 
   -- Tables that are refused may be too short: a plan has few slices.
   pub short-tables : (ss : List Ticks) → Lawful board (length js) js → stepsOn board js ≡ given ss
@@ -159,9 +153,9 @@ module _ (board : Board) (js : List Job) (m k : ℕ) where
       ⊎-elim inl (λ l. inr (omega (arith, accepted-few board (length js) js ss law (steps-accepted board js ss law is))))
 
   pub lawful-left : {number place : ℕ} → Lawful board (length js) js → Listed board js m k number place
-      → ((number ≡ 6) × (place ≡ 0)) ⊎ ShortTables board js m k
-  lawful-left law listed = go (rw (listed-plan listed) at (plan-went board js m k law))
+      → RoomCause board js number place ⊎ ShortTables board js m k
+  lawful-left law listed = go (lawful-went law listed)
     where
-      go : {number place : ℕ} → Went board js m k (refused number place) → ((number ≡ 6) × (place ≡ 0)) ⊎ ShortTables board js m k
-      go (no-room is) = inl (refl, refl)
+      go : {number place : ℕ} → Went board js m k (refused number place) → RoomCause board js number place ⊎ ShortTables board js m k
+      go (no-room cause) = inl cause
       go (no-space ss is cause) = inr (short-tables ss law is cause)

@@ -2,9 +2,10 @@
 -- answers. Read this page first. Each theorem starts from the promise in `plan`'s contract, `Promised`, and from nothing else: the call is
 -- given the jobs js and tables that hold ss and ls, it answers r, and the tables then hold ss′ and ls′.
 -- The words are those of the model: DoneBy (one job's work), Runs (a tick of a slice), SameCore, ticksIn, Split. Assumes nothing.
+use mathlib.Core.Bool.{true}
 use mathlib.Core.List.{List, map}
-use mathlib.Core.Logic.{_↔_, ⊎-elim}
-use mathlib.Core.Path.{_≡_, refl, ap, _∙_}
+use mathlib.Core.Logic.{_↔_, Iff·trans, _⊎_, inl, inr, ⊎-elim}
+use mathlib.Core.Path.{_≡_, refl, sym, ap, _∙_}
 use Prim.Native.Nat.{ℕ, _+_, _-_, _*_, _≤_, _<_}
 use native.Mathlib.Omega.{arith}
 use lib.ListN.{length, take, drop, getD, length-take, length-map, List·getD-map}
@@ -14,7 +15,7 @@ use Rattle.model.specs.Board.{roomOf}
 use Rattle.model.specs.Empty.{noJob, noShare, noSlice}
 use Rattle.model.specs.Limits.{jobsMost}
 use Rattle.model.specs.Movers.{movers, unevens}
-use Rattle.model.specs.Refusal.{Answer, given, refused, numberOf, placeOf}
+use Rattle.model.specs.Refusal.{Answer, given, refused, numberOf, placeOf, roomRefusal}
 use Rattle.model.specs.ShareRow.{ticksOfRow}
 use Rattle.model.specs.Split.{Ticks, share, ticksOn, DoneBy, Split}
 use Rattle.model.specs.Timetable.{Runs, SameCore, Inside, ticksIn}
@@ -28,14 +29,20 @@ use Rattle.model.specs.declared.Slice.{Slice}
 use Rattle.model.proofs.Splits.{all-done-at}
 use Rattle.legal.specs.Lawful.{Lawful}
 use Rattle.legal.specs.Legal.{legalOf}
+use Rattle.legal.proofs.Lawful.{legal-lawful}
+use Rattle.split.specs.Causes.{BothOver, StillOver, OtherOver, RoomCause}
 use Rattle.split.specs.Promise.{stretchedOn, SmallerSplit}
+use Rattle.split.specs.Shares.{sharesOf}
+use Rattle.split.proofs.Causes.{six, fourteen, fifteen, sixteen, cause-numbered}
+use Rattle.split.proofs.Demands.{cause-room}
 use Rattle.planner.specs.Listed.{BadCost, TooLong, LowestOf, ShortTables, Listed, window, cores, many, cost, long, room, space}
 use Rattle.planner.specs.Plan.{Counts, planOf, countsIn, saysPlanned}
-use Rattle.planner.specs.Promise.{Promised}
+use Rattle.planner.specs.Promise.{Columned, Promised}
 use Rattle.planner.specs.declared.Planned.{Planned}
 use Rattle.planner.specs.declared.Planned.the-variants.{Plan, Refused}
-use Rattle.planner.proofs.Causes.{plan-listed, listed-plan, short-tables, lawful-left}
+use Rattle.planner.proofs.Causes.{plan-listed, listed-plan, listed-cause, short-tables, lawful-left}
 use Rattle.planner.proofs.FromPromise.{plan-there, rows-pair, refusal-by-rules}
+use Rattle.planner.proofs.Lent.{counts-room, plan-room, room-alike}
 
 -- ==== Demand 1. Any input at all is planned or refused by number and place. Nothing is left to the caller to check, every call ends, a
 -- refusal changes no entry of the lent tables.
@@ -47,16 +54,18 @@ abbrev pub PlannedOrRefused : Board → List Job → (m k : ℕ) → Answer Coun
 PlannedOrRefused board js m k (given counts) = counts .jobs ≡ length js
 PlannedOrRefused board js m k (refused number place) = Listed board js m k number place
 
--- The numbers are 1 to 7, and no place is above the most jobs of a set.
+-- The numbers are 1 to 7 and 14 to 16, and no place is above the most jobs of a set.
 pub listed-small : {board : Board} {js : List Job} {m k number place : ℕ} → Listed board js m k number place
-    → (1 ≤ number) × (number ≤ 7) × (place ≤ jobsMost)
-listed-small (window cause) = omega arith
-listed-small (cores short cause) = omega arith
-listed-small (many sound cause) = omega arith
-listed-small (cost job lowest sound few) = omega (arith, lowest .there)
-listed-small (long job lowest sound few costs) = omega (arith, lowest .there)
-listed-small (room law cause) = omega arith
-listed-small (space ss law is cause) = omega arith
+    → (1 ≤ number) × ((number ≤ 7) ⊎ (14 ≤ number)) × (number ≤ 16) × (place ≤ jobsMost)
+listed-small (window cause) = (omega arith, inl (omega arith), omega arith, omega arith)
+listed-small (cores short cause) = (omega arith, inl (omega arith), omega arith, omega arith)
+listed-small (many sound cause) = (omega arith, inl (omega arith), omega arith, omega arith)
+listed-small (cost job lowest sound few) = (omega arith, inl (omega arith), omega arith, omega (arith, lowest .there))
+listed-small (long job lowest sound few costs) = (omega arith, inl (omega arith), omega arith, omega (arith, lowest .there))
+listed-small (room law cause) =
+    let its = cause-numbered cause in
+    (⊎-elim (λ six. omega arith) (λ more. omega arith) (its .0), ⊎-elim (λ six. inl (omega arith)) inr (its .0), its .1, omega (arith, its .2))
+listed-small (space ss law is cause) = (omega arith, inl (omega arith), omega arith, omega arith)
 
 module _ {board : Board} {js : List Job} {ss ss′ : List Share} {ls ls′ : List Slice} where
   -- Any input at all is planned or refused by number and place.
@@ -169,19 +178,59 @@ module _ {board : Board} {js : List Job} {ss ss′ : List Share} {ls ls′ : Lis
     abbrev less : Kind → ℕ
     less kind = roomOf board kind - stretchedOn board js kind
 
+    shares-refused : roomRefusal (saysPlanned r) ≡ true → roomRefusal (sharesOf board (length js) js) ≡ true
+    shares-refused e =
+        let plan = planOf board (length js) js (length ss) (length ls) in
+        sym (counts-room plan ∙ plan-room board (length js) js (length ss) (length ls)) ∙ (rw (p .answer) at e)
+
     -- Refused for room only if no split exists on the smaller board: of any set, for one that is not legal has another refusal.
-    pub room-only : saysPlanned r ≡ refused 6 0 → Split (board .window) (less First) (less Second) js → ⊥
+    pub room-only : roomRefusal (saysPlanned r) ≡ true → Split (board .window) (less First) (less Second) js → ⊥
     room-only = p .demand3 .only
 
     -- With no stretched job, exactly when no split exists at all.
     pub room-exactly : legalOf board (length js) js ≡ given tt → stretchedOn board js First ≡ 0 → stretchedOn board js Second ≡ 0
-        → (saysPlanned r ≡ refused 6 0) ↔ (Split (board .window) (roomOf board First) (roomOf board Second) js → ⊥)
+        → (roomRefusal (saysPlanned r) ≡ true) ↔ (Split (board .window) (roomOf board First) (roomOf board Second) js → ⊥)
     room-exactly = p .demand3 .exactly
+
+    -- ==== Which kind was short. A refusal for room is one of four, and each of a legal set is given exactly for its cause (split's
+    -- specs/Causes.antt). At most one of these causes applies (`room-once` on the page of the split).
+    module _ (legal : legalOf board (length js) js ≡ given tt) where
+      law : Lawful board (length js) js
+      law = legal-lawful board (length js) js legal
+
+      caused : {number place : ℕ} → (number ≡ 7 → ⊥) → (saysPlanned r ≡ refused number place) ↔ RoomCause board js number place
+      caused not-space =
+          (λ e. listed-cause board js (length ss) (length ls) law not-space (refused-exactly p .0 e), λ cause. refused-exactly p .1 (room law cause))
+
+      -- 6: both kinds are over at home.
+      pub by-six : (saysPlanned r ≡ refused 6 0) ↔ BothOver board js
+      by-six = Iff·trans (caused (λ e. omega arith)) (six board js)
+
+      -- 14: the first kind alone is over at home, and so it is with all its movable jobs at their far ends. 15: the same of the second.
+      pub by-fourteen : (saysPlanned r ≡ refused 14 0) ↔ StillOver board js First
+      by-fourteen = Iff·trans (caused (λ e. omega arith)) (fourteen board js)
+
+      pub by-fifteen : (saysPlanned r ≡ refused 15 0) ↔ StillOver board js Second
+      by-fifteen = Iff·trans (caused (λ e. omega arith)) (fifteen board js)
+
+      -- 16: one kind alone is over at home, and is not with all its movable jobs at their far ends, but the other is over where the steps
+      -- stopped. The one is then exactly full (`sixteen-full` on the page of the split).
+      pub by-sixteen : (saysPlanned r ≡ refused 16 0) ↔ ((kind : Kind) × OtherOver board js kind)
+      by-sixteen = Iff·trans (caused (λ e. omega arith)) (sixteen board js)
+
+    -- Which of them refuses a set does not depend on the lent tables: with others, or as columns, it is refused alike.
+    pub room-any-tables : {ts ts′ : List Share} {ms ms′ : List Slice} {q : Planned} → Promised board js ts ms q ts′ ms′
+        → roomRefusal (saysPlanned r) ≡ true → saysPlanned q ≡ saysPlanned r
+    room-any-tables other e = rw (other .answer, p .answer) (room-alike (sharesOf board (length js) js) _ _ (shares-refused e))
+
+    pub room-any-columns : {s1 s2 rows s1′ s2′ rows′ : List ℕ} {q : Planned} → Columned board (length js) js s1 s2 rows q s1′ s2′ rows′
+        → roomRefusal (saysPlanned r) ≡ true → saysPlanned q ≡ saysPlanned r
+    room-any-columns other e = rw (other .says, p .answer) (room-alike (sharesOf board (length js) js) _ _ (shares-refused e))
 
   -- Demands 1 and 3 together: a lawful set that has a split on the smaller board is planned, in tables that are long enough.
   pub split-planned : (r : Planned) → Promised board js ss ls r ss′ ls′ → Lawful board (length js) js → SmallerSplit board js
       → (ShortTables board js (length ss) (length ls) → ⊥) → (jobs : ℕ) × (slices : ℕ) × (r ≡ Plan jobs slices)
   split-planned (Plan jobs slices) p law split enough = (jobs, slices, refl)
   split-planned (Refused refusal) p law split enough =
-      absurd (⊎-elim (λ six. room-only p (rw (six .0, six .1) refl) split) enough
+      absurd (⊎-elim (λ cause. room-only p (cause-room cause) split) enough
       (lawful-left board js (length ss) (length ls) law (any-input-answered (Refused refusal) p)))

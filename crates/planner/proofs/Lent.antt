@@ -6,7 +6,7 @@
 --     lent       the promise, of the plan by value of the costs that were read, whose rows were written to both tables
 -- Assumes nothing.
 use mathlib.Core.Path.{_≡_, refl, sym, ap, _∙_}
-use mathlib.Core.Bool.{Bool, true, false, cond, _||_}
+use mathlib.Core.Bool.{Bool, true, false, false≢true, cond, _||_}
 use mathlib.Core.List.{List, _++_, map}
 use Prim.Native.Nat.{ℕ, _-_, _≤_, min}
 use native.Mathlib.Omega.{arith}
@@ -18,7 +18,7 @@ use Rattle.rows.proofs.Never.{never}
 use Rattle.model.specs.Columns.{costOn, jobsIn, sharesIn as sharesFrom}
 use Rattle.model.specs.Limits.{jobsMost}
 use Rattle.model.specs.Packed.{slicesIn as slicesFrom}
-use Rattle.model.specs.Refusal.{Answer, given, refused, andThen}
+use Rattle.model.specs.Refusal.{Answer, given, refused, andThen, roomRefusal}
 use Rattle.model.specs.ShareRow.{rowOf, ticksOfRow}
 use Rattle.model.specs.Split.{Ticks}
 use Rattle.model.specs.declared.Kind.{Kind}
@@ -30,10 +30,10 @@ use Rattle.model.specs.declared.Slice.{Slice}
 use Rattle.model.proofs.Columns.{costs-back}
 use Rattle.model.proofs.ShareRow.{rows-back}
 use Rattle.split.specs.Shares.{sharesOf}
-use Rattle.split.proofs.Demands.{demands, exactly}
+use Rattle.split.proofs.Demands.{room-only, exactly}
 use Rattle.split.proofs.Seen.{shares-read}
 use Rattle.slices.specs.Table.{tableOf}
-use Rattle.planner.specs.Plan.{Plan, Counts, fitted, planOf, sharesGiven, slicesGiven, countsIn, saysPlanned}
+use Rattle.planner.specs.Plan.{Plan, Counts, planFrom, fitted, planOf, sharesGiven, slicesGiven, countsIn, saysPlanned}
 use Rattle.planner.specs.Promise.{Unchanged, Served, Promised}
 use Rattle.planner.specs.ByValue.{Filled}
 use Rattle.planner.specs.declared.Planned.{Planned}
@@ -73,25 +73,26 @@ module _ (board : Board) (js : List Job) (ss ss′ : List Share) (ls ls′ : Lis
   stands (Refused r) (given p) is says shares-are slices-are = never (cc)
   stands (Refused r) (refused number place) is says shares-are slices-are = ((shares-are, slices-are), tt)
 
--- A plan is refused for room where its shares are.
-module _ (board : Board) (n : ℕ) (js : List Job) (m k : ℕ) where
-  abbrev made : List Ticks → Answer Plan
-  made ss = fitted m k (record { shares = ss; slices = tableOf (board .window) ss })
+-- A plan is refused for room exactly where its shares are.
+pub counts-room : (x : Answer Plan) → roomRefusal (countsIn x) ≡ roomRefusal x
+counts-room (given p) = refl
+counts-room (refused number place) = refl
 
-  pub plan-room : countsIn (planOf board n js m k) ≡ refused 6 0 → sharesOf board n js ≡ refused 6 0
-  plan-room e = go (sharesOf board n js) refl e
-    where
-      fits : (ss : List Ticks) (t : Bool)
-          → countsIn (cond t (refused 7 0) (given (record { shares = ss; slices = tableOf (board .window) ss }))) ≡ refused 6 0 → ⊥
-      fits ss true e = let z : _≡_ {A = ℕ} 7 6 = cc in omega arith
-      fits ss false e = never (cc)
+pub plan-room : (board : Board) (n : ℕ) (js : List Job) (m k : ℕ) → roomRefusal (planOf board n js m k) ≡ roomRefusal (sharesOf board n js)
+plan-room board n js m k = go (sharesOf board n js)
+  where
+    fits : (ss : List Ticks) (t : Bool) → roomRefusal (cond t (refused 7 0) (given (planFrom board ss))) ≡ false
+    fits ss true = refl
+    fits ss false = refl
 
-      go : (x : Answer (List Ticks)) → sharesOf board n js ≡ x → countsIn (andThen x made) ≡ refused 6 0 → sharesOf board n js ≡ refused 6 0
-      go (given ss) is e = absurd (fits ss (ltb m (length ss) || ltb k (length (tableOf (board .window) ss))) e)
-      go (refused number place) is e = is ∙ cc
+    go : (x : Answer (List Ticks)) → roomRefusal (andThen x (λ (ss : List Ticks). fitted m k (planFrom board ss))) ≡ roomRefusal x
+    go (given ss) = fits ss (ltb m (length ss) || ltb k (length (tableOf (board .window) ss)))
+    go (refused number place) = refl
 
-  room-plan : sharesOf board n js ≡ refused 6 0 → countsIn (planOf board n js m k) ≡ refused 6 0
-  room-plan e = ap (λ (x : Answer (List Ticks)). countsIn (andThen x made)) e
+-- And then it is refused alike, whatever is made of the shares.
+pub room-alike : (x : Answer (List Ticks)) (f g : List Ticks → Answer Plan) → roomRefusal x ≡ true → countsIn (andThen x f) ≡ countsIn (andThen x g)
+room-alike (given ss) f g e = absurd (false≢true e)
+room-alike (refused number place) f g e = refl
 
 pub lent : (board : Board) (js : List Job) (ss ss′ : List Share) (ls ls′ : List Slice) (few : ℕ) (first second : List ℕ) (t : Tables)
     → few ≡ min (length js) jobsMost → first ≡ read First js few → second ≡ read Second js few
@@ -107,10 +108,8 @@ lent board js ss ss′ ls ls′ few first second t few-is first-is second-is fil
       demand2 = both .1;
       demand3 =
           record {
-            only = λ e. rw (plan-room board n js m k (sym answer ∙ e)) at (demands board n js) refl;
-            exactly = λ legal none₁ none₂.
-                let iff = exactly board n js legal none₁ none₂ in
-                (λ e. iff .0 (plan-room board n js m k (sym answer ∙ e)), λ none. answer ∙ room-plan board n js m k (iff .1 none));
+            only = rw for-room (room-only board n js);
+            exactly = rw for-room (exactly board n js);
           };
     }
   where
@@ -128,6 +127,9 @@ lent board js ss ss′ ls ls′ few first second t few-is first-is second-is fil
 
     answer : saysPlanned (t .planned) ≡ countsIn (planOf board n js m k)
     answer = filled .says ∙ ap countsIn same
+
+    for-room : roomRefusal (saysPlanned (t .planned)) ≡ roomRefusal (sharesOf board n js)
+    for-room = rw answer (counts-room (planOf board n js m k) ∙ plan-room board n js m k)
 
     shares : ss′ ≡ front (map rowOf (sharesGiven (planOf board n js m k))) ss
     shares =

@@ -8,7 +8,7 @@
 --   moves-as-slices   a job with two slices or more moves as often as it has slices
 --   moves-slices      all moves are the slices less the jobs with exactly one
 --   moves-few         at most 3·(m1 + m2) − 2 moves
---   plan-roomy        a plan is never refused for space where the tables are long enough for every set
+--   plan-never-7      a plan is never refused for space where the tables are long enough for every set
 -- Assumes nothing.
 use mathlib.Core.Path.{_≡_, refl, sym, ap, _∙_}
 use mathlib.Core.Bool.{Bool, true, false}
@@ -39,7 +39,7 @@ use Rattle.model.specs.declared.Slice.{Slice}
 use Rattle.model.proofs.Splits.{all-done-length}
 use Rattle.legal.specs.Lawful.{LegalJob}
 use Rattle.split.specs.Shares.{sharesOf}
-use Rattle.split.proofs.Demands.{shares-numbered}
+use Rattle.split.proofs.Causes.{shares-never-7}
 use Rattle.slices.specs.Fits.{Fits}
 use Rattle.slices.specs.JobSlices.{slicesFor, singles}
 use Rattle.slices.specs.Moves.{movesOf}
@@ -186,15 +186,15 @@ module _ {board : Board} {n : ℕ} {js : List Job} {r : PlannedMoves} {p : Plan}
       rw (moves-sum (λ (m : Moves). m .outer) refl, moves-sum (λ (m : Moves). m .inner) refl, made .1)
       (table-moves-few board (p .shares) fits (law .first-some) (law .second-some))
 
--- A plan for tables that are long enough for every set is refused by 6 at most, and so never by 7.
-pub plan-roomy : (board : Board) (n : ℕ) (js : List Job) → length js ≤ jobsMost → (number place : ℕ)
-    → roomyPlan board n js ≡ refused number place → number ≤ 6
-plan-roomy board n js short number place e = go (sharesOf board n js) refl e
+-- A plan for tables that are long enough for every set is never refused by 7.
+pub plan-never-7 : (board : Board) (n : ℕ) (js : List Job) → length js ≤ jobsMost → (number place : ℕ)
+    → roomyPlan board n js ≡ refused number place → number ≡ 7 → ⊥
+plan-never-7 board n js short number place e = go (sharesOf board n js) refl e
   where
     go : (x : Answer (List Ticks)) → sharesOf board n js ≡ x
         → andThen x (λ (ss : List Ticks). fitted jobsMost slicesMost (planFrom board ss))
-        ≡ refused number place → number ≤ 6
-    go (given ss) is e =
+        ≡ refused number place → number ≡ 7 → ⊥
+    go (given ss) is e seven =
         let law = shares-lawful board n js is in
         let ok = shares-accepted board n js is in
         let few : length ss ≤ jobsMost = omega (arith, all-done-length (board .window) 1 js ss (ok .whole .done)) in
@@ -202,4 +202,4 @@ plan-roomy board n js short number place e = go (sharesOf board n js) refl e
         omega (arith, accepted-few board n js ss law ok, law .first-most, law .second-most) in
         let fits = rw (le-ltb jobsMost (length ss) few, le-ltb slicesMost (length (tableOf (board .window) ss)) rows) at e in
         never (cc)
-    go (refused m q) is e = let same : m ≡ number = cc in omega (arith, shares-numbered board n js m q is)
+    go (refused m q) is e seven = let same : m ≡ number = cc in shares-never-7 board n js is (same ∙ seven)

@@ -1,5 +1,5 @@
 -- Internal: no public promise cites this. The theorems on the page of demands do, so read it with them.
--- The refusals of a set, line by line from 1 to 7: docs/SPEC.md, "Which sets are legal" for 1 to 5, "The steps" for 6, "The slices" for 7.
+-- The refusals of a set, line by line: docs/SPEC.md, "Which sets are legal" for 1 to 5, "The steps" for 6 and 14 to 16, "The slices" for 7.
 -- Each line has its number, its place and its cause, and says that no line above it applies. A call is refused exactly so:
 -- `refused-exactly` in proofs/Demands.antt.
 --   Outside       a number that is not in 1 to a limit
@@ -22,13 +22,14 @@ use Rattle.rows.specs.Numbered.{LowestIn}
 use Rattle.model.specs.Board.{roomOf}
 use Rattle.model.specs.Empty.{noJob}
 use Rattle.model.specs.Limits.{windowMost, coresMost, jobsMost, costMost}
-use Rattle.model.specs.Refusal.{Answer, given, refused}
+use Rattle.model.specs.Refusal.{Answer, given}
 use Rattle.model.specs.Split.{Ticks}
 use Rattle.model.specs.declared.Kind.the-variants.{First, Second}
 use Rattle.model.specs.declared.Board.{Board}
 use Rattle.model.specs.declared.Job.{Job}
 use Rattle.model.specs.declared.Job.the-variants.{Both, OnlyFirst, OnlySecond}
 use Rattle.legal.specs.Lawful.{Lawful}
+use Rattle.split.specs.Causes.{RoomCause}
 use Rattle.split.specs.Shares.{splitOf}
 use Rattle.slices.specs.Table.{tableOf}
 
@@ -66,6 +67,6 @@ pub data Listed (board : Board) (js : List Job) (m k : ℕ) : (number place : �
   cost : (job : ℕ) → LowestOf BadCost js job → Sound board → length js ≤ jobsMost → Listed board js m k 4 job
   long : (job : ℕ) → LowestOf (TooLong (board .window)) js job → Sound board → length js ≤ jobsMost → All (λ (j : Job). BadCost j → ⊥) js
       → Listed board js m k 5 job
-  room : Lawful board (length js) js → stepsOn board js ≡ refused 6 0 → Listed board js m k 6 0
+  room : {number place : ℕ} → Lawful board (length js) js → RoomCause board js number place → Listed board js m k number place
   space : (ss : List Ticks) → Lawful board (length js) js → stepsOn board js ≡ given ss → (m < length js) ⊎ (k < length (tableOf (board .window) ss))
       → Listed board js m k 7 0

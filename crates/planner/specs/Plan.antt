@@ -1,4 +1,4 @@
--- The plan of a set: its shares, and the table of slices that they give. Refusals 1 to 6, then 7: docs/SPEC.md, "The slices".
+-- The plan of a set: its shares, and the table of slices that they give. The refusals of the split come before 7: docs/SPEC.md, "The slices".
 --   Plan                       the shares of the jobs, and the table
 --   planFrom                   the plan of given shares
 --   fitted                     refusal 7 where a lent table has too few rows

@@ -7,6 +7,7 @@
 --   ForRoom     demand 3: a refusal for room, and when exactly it is given
 --   Promised    the lent planning call: the answer, every row of both tables, and the three demands in their own words
 -- Assumes nothing.
+use mathlib.Core.Bool.{true}
 use mathlib.Core.List.{List, map}
 use mathlib.Core.Logic.{_↔_}
 use mathlib.Core.Path.{_≡_}
@@ -15,7 +16,7 @@ use lib.ListN.{length, take}
 use Rattle.rows.specs.Lists.{front}
 use Rattle.model.specs.Board.{roomOf}
 use Rattle.model.specs.Movers.{movers, unevens}
-use Rattle.model.specs.Refusal.{given, refused}
+use Rattle.model.specs.Refusal.{given, roomRefusal}
 use Rattle.model.specs.Packed.{packOf}
 use Rattle.model.specs.ShareRow.{rowOf, ticksOfRow}
 use Rattle.model.specs.Split.{Ticks, ticksOn, WholeSplit}
@@ -54,9 +55,9 @@ Served board js (Plan jobs slices) ss′ ls′ = GoodPlan board js (map ticksOfR
 Served board js (Refused r) ss′ ls′ = Unit {0}
 
 pub record ForRoom (board : Board) (js : List Job) (r : Planned) : Type 0 where
-  pub only : saysPlanned r ≡ refused 6 0 → SmallerSplit board js → ⊥
+  pub only : roomRefusal (saysPlanned r) ≡ true → SmallerSplit board js → ⊥
   pub exactly : legalOf board (length js) js ≡ given tt → stretchedOn board js First ≡ 0 → stretchedOn board js Second ≡ 0
-      → (saysPlanned r ≡ refused 6 0) ↔ (SplitOn board js → ⊥)
+      → (roomRefusal (saysPlanned r) ≡ true) ↔ (SplitOn board js → ⊥)
 
 -- The jobs js, and tables that held ss and ls, and hold ss′ and ls′ after the call.
 pub record Promised (board : Board) (js : List Job) (ss : List Share) (ls : List Slice) (r : Planned) (ss′ : List Share) (ls′ : List Slice) : Type 0 where

@@ -17,6 +17,7 @@ use Rattle.model.specs.Columns.{jobAt, jobsIn, sharesIn}
 use Rattle.model.specs.declared.Kind.{Kind}
 use Rattle.model.specs.declared.Kind.the-variants.{First, Second}
 use Rattle.model.specs.declared.Job.{Job}
+use Rattle.model.specs.declared.Refusal.the-variants.{BothOver}
 use Rattle.model.proofs.Columns.{Case, on-first, on-second, on-both, case}
 use Rattle.legal.specs.Lawful.{LegalJob}
 use Rattle.split.specs.Home.{bothRow, atHome}
@@ -24,6 +25,8 @@ use Rattle.split.specs.Steps.{stepsOf}
 use Rattle.split.specs.Shares.{shareOf, sharesSeen, homeRows, homeTicks, settled, relieved, splitOf}
 use Rattle.split.specs.Columns.{rowAt, rowIn, rowsIn, homeAt, bare, markOf, marksIn, GoneHome, Relieved, Answered, Ready, Summed}
 use Rattle.split.specs.Rows.{Row}
+use Rattle.split.specs.declared.Ended.{Ended}
+use Rattle.split.specs.declared.Ended.the-variants.{Split, Refused}
 use Rattle.split.specs.declared.Sums.{Sums}
 use Rattle.split.proofs.home.Homes.{home-ready, home-there, home-here}
 use Rattle.split.proofs.Answers.{split-both, split-first, split-second, split-home}
@@ -133,32 +136,32 @@ module _ {n : ℕ} {c1 c2 s1₀ s2₀ s1 s2 : List ℕ} {r : Sums} (gone : GoneH
       rw (upto-length n job) (settled-alike k room away _ _ (alike-steps n w room rows (homeRows k js) (b ∙ e)))
 
   module _ (w room1 room2 : ℕ) where
-    pub both-over : room1 < r .here → room2 < r .there → Answered (splitOf w room1 room2 js) n s1₀ s2₀ s1 s2 false
+    pub both-over : room1 < r .here → room2 < r .there → Answered (splitOf w room1 room2 js) n s1₀ s2₀ s1 s2 (Refused BothOver)
     both-over h t = record {
       is = split-both w room1 room2 js (omega (arith, home-first)) (omega (arith, home-second));
       rest1 = rest-first;
       rest2 = rest-second;
     }
 
-    pub first-over : room1 < r .here → r .there ≤ room2 → {s1' s2' : List ℕ} {ok : Bool} → Relieved n w room1 room2 c2 s1 s2 s1' s2' ok
-        → Answered (splitOf w room1 room2 js) n s1₀ s2₀ s1' s2' ok
+    pub first-over : room1 < r .here → r .there ≤ room2 → {s1' s2' : List ℕ} {ended : Ended} → Relieved First n w room1 room2 c2 s1 s2 s1' s2' ended
+        → Answered (splitOf w room1 room2 js) n s1₀ s2₀ s1' s2' ended
     first-over h t x = record {
-      is = x .answer First ∙ relieved-home First w room1 room2 _ (rows-bare n (marksIn n c2 s1) c2 s1 s2) (home-rows First)
+      is = x .answer ∙ relieved-home First w room1 room2 _ (rows-bare n (marksIn n c2 s1) c2 s1 s2) (home-rows First)
           ∙ split-first w room1 room2 js (omega (arith, home-first)) (omega (arith, home-second));
       rest1 = x .rest-here ∙ rest-first;
       rest2 = x .rest-there ∙ rest-second;
     }
 
-    pub second-over : r .here ≤ room1 → room2 < r .there → {s1' s2' : List ℕ} {ok : Bool} → Relieved n w room2 room1 c1 s2 s1 s2' s1' ok
-        → Answered (splitOf w room1 room2 js) n s1₀ s2₀ s1' s2' ok
+    pub second-over : r .here ≤ room1 → room2 < r .there → {s1' s2' : List ℕ} {ended : Ended} → Relieved Second n w room2 room1 c1 s2 s1 s2' s1' ended
+        → Answered (splitOf w room1 room2 js) n s1₀ s2₀ s1' s2' ended
     second-over h t x = record {
-      is = x .answer Second ∙ relieved-home Second w room2 room1 _ (rows-bare n (marksIn n c1 s2) c1 s2 s1) (home-rows Second)
+      is = x .answer ∙ relieved-home Second w room2 room1 _ (rows-bare n (marksIn n c1 s2) c1 s2 s1) (home-rows Second)
           ∙ split-second w room1 room2 js (omega (arith, home-first)) (omega (arith, home-second));
       rest1 = x .rest-there ∙ rest-first;
       rest2 = x .rest-here ∙ rest-second;
     }
 
-    pub none-over : r .here ≤ room1 → r .there ≤ room2 → Answered (splitOf w room1 room2 js) n s1₀ s2₀ s1 s2 true
+    pub none-over : r .here ≤ room1 → r .there ≤ room2 → Answered (splitOf w room1 room2 js) n s1₀ s2₀ s1 s2 Split
     none-over h t = record {
       is = ap given home-shares ∙ split-home w room1 room2 js (omega (arith, home-first)) (omega (arith, home-second));
       rest1 = rest-first;

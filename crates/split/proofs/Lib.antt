@@ -9,6 +9,8 @@ pub mod BothSides
 mod Examples
 -- The demands of the definitions: shares that are given are a split, and a refusal for room leaves none on the smaller board.
 pub mod Demands
+-- Each refusal for room has its cause, and each cause its refusal.
+pub mod Causes
 -- What the code's answers say, and which of them the definition of the split gives.
 mod Answers
 -- The jobs at home in columns, and the answer by which kinds are over: what `split_legal` needs.

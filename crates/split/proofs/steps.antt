@@ -9,6 +9,8 @@ pub mod NextRow
 pub mod RowSums
 -- The steps, one by one: where they end, and what one that moves a row does.
 pub mod StepByStep
+-- Where they stop, by the far ends: what ties a refusal for room to its cause.
+pub mod FarEnds
 -- Rows without the near cost that they no longer need: the steps do not ask for it.
 pub mod Bare
 -- The row that comes next, by products alone: the loop of `next_of`.

@@ -24,8 +24,9 @@
 --   Stepped    the steps on the first n rows: the rows and the sums after them
 --   homeAt     a job of two columns of costs at home, seen from a kind
 --   GoneHome   the first n jobs at home: what is stored, and the sums
---   says       what the code's answer says, with its two columns, as an answer by number and place
---   Relieved   the answer where the steps from a kind are over, seen from either kind
+--   saysEnded  what the code's answer to a legal set says, with its two columns, as an answer by number and place
+--   endedOf    the code's answer where the steps from a kind are over, by whether each kind is within its room
+--   Relieved   the answer where the steps from a kind are over
 --   Answered   the answer to a legal set
 --   none       a refusal's result: no shares
 -- Assumes nothing.
@@ -39,18 +40,21 @@ use Rattle.rows.specs.Upto.{upto, at}
 use Rattle.model.specs.Board.{on}
 use Rattle.model.specs.Columns.{jobAt, jobsIn, sharesIn}
 use Rattle.model.specs.Limits.{jobsMost}
-use Rattle.model.specs.Refusal.{Answer, given, refused}
+use Rattle.model.specs.Refusal.{Answer, given, saysRefusal}
 use Rattle.model.specs.Split.{Ticks}
 use Rattle.model.specs.declared.Kind.{Kind}
 use Rattle.model.specs.declared.Kind.the-variants.{First}
 use Rattle.model.specs.declared.Refusal.{Refusal}
+use Rattle.model.specs.declared.Refusal.the-variants.{FirstOver, SecondOver, OtherOver}
 use Rattle.split.specs.Home.{bothRow, atHome, keepOf, giveOf}
 use Rattle.split.specs.Rows.{Row, Next, Nobody, At}
 use Rattle.split.specs.Shares.{homeRows, settled}
 use Rattle.split.specs.Steps.{hereSum, thereSum, nextOf, movedOf, stepsOf}
 use Rattle.split.specs.declared.steps.Best.{Best}
+use Rattle.split.specs.declared.Ended.{Ended}
+use Rattle.split.specs.declared.Ended.the-variants.{Split, Refused}
 use Rattle.split.specs.declared.Ends.{Ends}
-use Rattle.split.specs.declared.Outcome.the-variants.{Refused}
+use Rattle.split.specs.declared.Outcome.the-variants.{Refused as NoShares}
 use Rattle.split.specs.declared.Shared.{Shared}
 use Rattle.split.specs.declared.Sums.{Sums}
 
@@ -159,21 +163,24 @@ pub record GoneHome (n : ℕ) (c1 c2 s1 s2 s1' s2' : List ℕ) (r : Sums) : Type
   pub second : s2' ≡ upto n (λ i. homeAt First c1 c2 i .there) ++ drop n s2
   pub sums : Summed (homeRows First (jobsIn n c1 c2)) r
 
-abbrev pub says : Bool → ℕ → (s1 s2 : List ℕ) → Answer (List Ticks)
-says true n s1 s2 = given (sharesIn n s1 s2)
-says false n s1 s2 = refused 6 0
+abbrev pub saysEnded : Ended → ℕ → (s1 s2 : List ℕ) → Answer (List Ticks)
+saysEnded Split n s1 s2 = given (sharesIn n s1 s2)
+saysEnded (Refused r) n s1 s2 = saysRefusal r
+
+abbrev pub endedOf : Kind → (within within-there : Bool) → Ended
+endedOf k s t = cond s (cond t Split (Refused OtherOver)) (Refused (on k FirstOver SecondOver))
 
 -- Where the answer is a refusal, nothing is said of the first n.
-pub record Relieved (n w room away : ℕ) (far here there here' there' : List ℕ) (r : Bool) : Type 0 where
-  pub answer : (k : Kind) → says r n (on k here' there') (on k there' here')
+pub record Relieved (k : Kind) (n w room away : ℕ) (far here there here' there' : List ℕ) (r : Ended) : Type 0 where
+  pub answer : saysEnded r n (on k here' there') (on k there' here')
       ≡ settled k room away (stepsOf n w room (rowsIn n (marksIn n far here) far here there))
   pub rest-here : drop n here' ≡ drop n here
   pub rest-there : drop n there' ≡ drop n there
 
-pub record Answered (answer : Answer (List Ticks)) (n : ℕ) (s1 s2 s1' s2' : List ℕ) (r : Bool) : Type 0 where
-  pub is : says r n s1' s2' ≡ answer
+pub record Answered (answer : Answer (List Ticks)) (n : ℕ) (s1 s2 s1' s2' : List ℕ) (r : Ended) : Type 0 where
+  pub is : saysEnded r n s1' s2' ≡ answer
   pub rest1 : drop n s1' ≡ drop n s1
   pub rest2 : drop n s2' ≡ drop n s2
 
 abbrev pub none : Refusal → Shared
-none refusal = record { outcome = Refused refusal; first = replicate jobsMost 0; second = replicate jobsMost 0 }
+none refusal = record { outcome = NoShares refusal; first = replicate jobsMost 0; second = replicate jobsMost 0 }

@@ -10,13 +10,14 @@
 --   Promised       the whole promise of the split: the answer, the demands, and when exactly a refusal is for room
 -- Assumes nothing.
 use mathlib.Core.Path.{_≡_}
+use mathlib.Core.Bool.{true}
 use mathlib.Core.List.{List}
 use mathlib.Core.Logic.{_↔_}
 use Prim.Native.Nat.{ℕ, _+_, _-_, _≤_}
 use Rattle.rows.specs.Lists.{sumOf}
 use Rattle.model.specs.Board.{roomOf}
 use Rattle.model.specs.Movers.{movers, unevens}
-use Rattle.model.specs.Refusal.{Answer, given, refused}
+use Rattle.model.specs.Refusal.{Answer, given, refused, roomRefusal}
 use Rattle.model.specs.Split.{Ticks, Split, WholeSplit}
 use Rattle.model.specs.declared.Kind.{Kind}
 use Rattle.model.specs.declared.Kind.the-variants.{First, Second}
@@ -47,12 +48,12 @@ pub record Accepted (board : Board) (js : List Job) (ss : List Ticks) : Type 0 w
 
 abbrev pub Demands : Board → List Job → Answer (List Ticks) → Type 0
 Demands board js (given ss) = Accepted board js ss
-Demands board js (refused number place) = number ≡ 6 → SmallerSplit board js → ⊥
+Demands board js (refused number place) = roomRefusal {A = List Ticks} (refused number place) ≡ true → SmallerSplit board js → ⊥
 
 abbrev pub Exactly : Board → ℕ → List Job → Answer (List Ticks) → Type 0
 Exactly board n js answer =
     legalOf board n js ≡ given tt → stretchedOn board js First ≡ 0 → stretchedOn board js Second ≡ 0
-    → (answer ≡ refused 6 0) ↔ (SplitOn board js → ⊥)
+    → (roomRefusal answer ≡ true) ↔ (SplitOn board js → ⊥)
 
 pub record Promised (board : Board) (n : ℕ) (js : List Job) (r : Shared) : Type 0 where
   pub answers : Answers (sharesOf board n js) r

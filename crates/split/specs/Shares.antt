@@ -7,7 +7,7 @@
 --   settled               the answer where the steps from a kind are over
 --   relieved              the answer where a kind is over at home, and the other is not
 --   byOver                the answer, by whether the first kind is over at home and whether the second is
---   splitOf               the split of a legal set over two rooms, or refusal 6
+--   splitOf               the split of a legal set over two rooms, or a refusal for room
 --   sharesOf              the same of any set: checks 1 to 5 come first
 --   balanceOn             what a kind has left before any job is moved
 --   balanceOf             the starting balance of each kind, of any legal set
@@ -26,13 +26,14 @@ use lib.IntN.{ℤ, pos, _-ℤ_}
 use lib.ListN.{length, drop, replicate}
 use Rattle.model.specs.Board.{on, roomOf}
 use Rattle.model.specs.Columns.{sharesIn}
-use Rattle.model.specs.Refusal.{Answer, given, refused, saysRefusal, andThen}
+use Rattle.model.specs.Refusal.{Answer, given, saysRefusal, andThen}
 use Rattle.model.specs.Split.{Ticks, share}
 use Rattle.model.specs.Limits.{jobsMost}
 use Rattle.model.specs.declared.Kind.{Kind}
 use Rattle.model.specs.declared.Kind.the-variants.{First, Second}
 use Rattle.model.specs.declared.Board.{Board}
 use Rattle.model.specs.declared.Job.{Job}
+use Rattle.model.specs.declared.Refusal.the-variants.{BothOver, FirstOver, SecondOver, OtherOver}
 use Rattle.legal.specs.Legal.{legalOf}
 use Rattle.split.specs.Home.{atHome}
 use Rattle.split.specs.Steps.{hereSum, thereSum, stepsOf}
@@ -56,20 +57,20 @@ homeRows k js = map (atHome k) js
 abbrev pub homeTicks : Kind → List Job → ℕ
 homeTicks k js = hereSum (homeRows k js)
 
--- A refusal for room has three causes and one number. Each has its name, so that a reader finds where it is given.
+-- The refusals for room: 6; 14 or 15, by the kind that was over; 16.
 abbrev pub bothOver : {A : Type 0} → Answer A
-bothOver = refused 6 0
+bothOver = saysRefusal BothOver
 
 abbrev pub stillOver : {A : Type 0} → Kind → Answer A
-stillOver k = refused 6 0
+stillOver k = saysRefusal (on k FirstOver SecondOver)
 
-abbrev pub otherOver : {A : Type 0} → Kind → Answer A
-otherOver k = refused 6 0
+abbrev pub otherOver : {A : Type 0} → Answer A
+otherOver = saysRefusal OtherOver
 
 -- The steps took jobs from kind k until it was within its room, or none could be moved. If it is not, refuse; then refuse if the other is over.
 unfoldable pub settled : Kind → (room away : ℕ) → List Row → Answer (List Ticks)
 settled k room away rs =
-    cond (leb (hereSum rs) room) (cond (leb (thereSum rs) away) (given (sharesSeen k rs)) (otherOver k)) (stillOver k)
+    cond (leb (hereSum rs) room) (cond (leb (thereSum rs) away) (given (sharesSeen k rs)) otherOver) (stillOver k)
 
 abbrev pub relieved : Kind → (w room away : ℕ) → List Job → Answer (List Ticks)
 relieved k w room away js = settled k room away (stepsOf (length js) w room (homeRows k js))

@@ -49,6 +49,12 @@ pub struct Shared {
     pub second: [u16; JOBS_MOST],
 }
 
+// How the split of a legal set ends: with a share for each job, or with a refusal.
+enum Ended {
+    Split,
+    Refused(Refusal),
+}
+
 // The ticks of all jobs on the kind that is looked from, and on the other.
 struct Sums {
     here: u64,
@@ -61,7 +67,7 @@ struct Ends {
     give: u32,
 }
 
-// The split of a legal set into `s1` and `s2`: whether there is one.
+// The split of a legal set into `s1` and `s2`.
 fn split_legal(
     board: Board,
     first: &[u32; JOBS_MOST],
@@ -70,7 +76,7 @@ fn split_legal(
     near: &mut [u16],
     s1: &mut [u16],
     s2: &mut [u16],
-) -> bool
+) -> Ended
     requires { ⌜ (board .window ≤ windowMost) × (n ≤ jobsMost) × (n ≤ length (now near)) × (n ≤ length (now s1)) × (n ≤ length (now s2)) ⌝ }
     requires { ⌜ All (LegalJob (board .window)) (jobsIn n (now first) (now second)) ⌝ }
     ensures { λ r. ⌜ Answered (splitOf (board .window) (roomOf board First) (roomOf board Second) (jobsIn n (now (first .entry)) (now (second .entry)))) n (now (s1 .entry)) (now (s2 .entry)) (now (s1 .exit)) (now (s2 .exit)) r ⌝ }
@@ -81,19 +87,19 @@ fn split_legal(
     let ticks = go_home(first, second, n, s1, s2);
     if room1 < ticks.here {
         if room2 < ticks.there {
-            return false;
+            return Ended::Refused(Refusal::BothOver);
         }
-        return relieve(w, room1, room2, ticks, near, second, n, s1, s2);
+        return relieve(Kind::First, w, room1, room2, ticks, near, second, n, s1, s2);
     }
     if room2 < ticks.there {
         // Looked at from the second kind: all that is of a kind is exchanged.
-        let swapped = Sums {
+        let seen = Sums {
             here: ticks.there,
             there: ticks.here,
         };
-        return relieve(w, room2, room1, swapped, near, first, n, s2, s1);
+        return relieve(Kind::Second, w, room2, room1, seen, near, first, n, s2, s1);
     }
-    true
+    Ended::Split
 }
 
 // A refusal gives no shares.
@@ -115,15 +121,15 @@ fn share_out(board: Board, first: &[u32; JOBS_MOST], second: &[u32; JOBS_MOST], 
     let mut near = [0u16; JOBS_MOST];
     let mut s1 = [0u16; JOBS_MOST];
     let mut s2 = [0u16; JOBS_MOST];
-    if split_legal(board, first, second, n, &mut near, &mut s1, &mut s2) {
-        return Shared {
+    match split_legal(board, first, second, n, &mut near, &mut s1, &mut s2) {
+        // Fresh columns: the homes, and whatever was moved, stay in `s1` and `s2`.
+        Ended::Refused(refusal) => refused(refusal),
+        Ended::Split => Shared {
             outcome: Outcome::Shares(n),
             first: s1,
             second: s2,
-        };
+        },
     }
-    // Fresh columns: the homes, and whatever was moved, stay in `s1` and `s2`.
-    refused(Refusal::Room)
 }
 
 // The split of any set, of which a column has the costs on each kind: a share for each job, or a refusal.

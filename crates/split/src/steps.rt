@@ -2,19 +2,24 @@
 //
 // They are written once for both kinds: `here` and `near` are a job's ticks and cost on the kind that is looked from, which is its home as long as
 // it can be moved; `there` and `far` are those on the other. A row is one job's place in the columns. Its near cost is 0 where it cannot be moved.
-ghost use mathlib.Core.Bool.{true, _&&_};
+ghost use mathlib.Core.Bool.{true};
 ghost use mathlib.Core.List.{_++_};
 ghost use mathlib.Core.Path.{_≡_};
 ghost use Prim.Native.Nat.{_*_, _≤_, _<_};
 ghost use lib.Dec.{leb};
 ghost use lib.ListN.{length, drop};
 ghost use Rattle.rows.specs.Upto.{at};
+ghost use Rattle.model.specs.Board.{on};
 ghost use Rattle.model.specs.Limits.{windowMost, jobsMost};
-ghost use Rattle.split.specs.Columns.{sumMost, Summed, Ready, Asks, rowsIn, markOf, marksIn, betterOf, Small, Found, goneTo, endOf, farEndOf, Advanced, Stepped, Relieved};
+ghost use Rattle.model.specs.declared.Refusal.the-variants.{FirstOver, SecondOver};
+ghost use Rattle.split.specs.Columns.{sumMost, Summed, Ready, Asks, rowsIn, markOf, marksIn, betterOf, Small, Found, goneTo, endOf, farEndOf, Advanced, Stepped, endedOf, Relieved};
 ghost use Rattle.split.specs.Home.{bothRow};
+use crate::Ended;
 use crate::Ends;
 use crate::Sums;
 use model::JOBS_MOST;
+use model::Kind;
+use model::Refusal;
 
 // The row found so far, with its costs: near is 0 and the number is the count of the rows where none is found.
 struct Best {
@@ -179,18 +184,32 @@ fn mark(near: &mut [u16], far: &[u32; JOBS_MOST], n: usize, here: &[u16])
     }
 }
 
-// Whether both kinds are within their rooms.
-fn is_within(ticks: Sums, room: u64, away: u64) -> bool
-    ensures { λ r. ⌜ r ≡ (leb (ticks .here) room && leb (ticks .there) away) ⌝ }
+// The refusal of a set whose kind that was over stays so.
+fn still_over(kind: Kind) -> Refusal
+    ensures { λ r. ⌜ r ≡ on kind FirstOver SecondOver ⌝ }
 {
-    if ticks.here <= room {
-        return ticks.there <= away;
+    match kind {
+        Kind::First => Refusal::FirstOver,
+        Kind::Second => Refusal::SecondOver,
     }
-    false
 }
 
-// A kind is over at home, and the other is not: jobs are moved from it. Whether both are within their rooms then.
+// How the split ends where the steps from a kind are over: each kind is within its room, or the set is refused.
+fn settle(kind: Kind, ticks: Sums, room: u64, away: u64) -> Ended
+    ensures { λ r. ⌜ r ≡ endedOf kind (leb (ticks .here) room) (leb (ticks .there) away) ⌝ }
+{
+    if room < ticks.here {
+        return Ended::Refused(still_over(kind));
+    }
+    if away < ticks.there {
+        return Ended::Refused(Refusal::OtherOver);
+    }
+    Ended::Split
+}
+
+// A kind is over at home, and the other is not: jobs are moved from it.
 pub(crate) fn relieve(
+    kind: Kind,
     w: u32,
     room: u64,
     away: u64,
@@ -200,12 +219,12 @@ pub(crate) fn relieve(
     n: usize,
     here: &mut [u16],
     there: &mut [u16],
-) -> bool
+) -> Ended
     requires { ⌜ (w ≤ windowMost) × (n ≤ jobsMost) × (n ≤ length (now near)) × (n ≤ length (now here)) × (n ≤ length (now there)) ⌝ }
     requires { ⌜ Ready w (rowsIn n (marksIn n (now far) (now here)) (now far) (now here) (now there)) × Summed (rowsIn n (marksIn n (now far) (now here)) (now far) (now here) (now there)) start ⌝ }
-    ensures { λ r. ⌜ Relieved n w room away (now (far .entry)) (now (here .entry)) (now (there .entry)) (now (here .exit)) (now (there .exit)) r ⌝ }
+    ensures { λ r. ⌜ Relieved kind n w room away (now (far .entry)) (now (here .entry)) (now (there .entry)) (now (here .exit)) (now (there .exit)) r ⌝ }
 {
     mark(near, far, n, here);
     let ends = steps(w, room, start, near, far, n, here, there);
-    is_within(ends, room, away)
+    settle(kind, ends, room, away)
 }

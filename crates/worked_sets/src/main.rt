@@ -121,6 +121,7 @@ fn table_of_document_01() {
     let two = board(10, 2, 2);
     let x = both(1, 1);
     let s = both(6, 16);
+    let m = both(16, 6);
     let t = both(10, 10);
     show(one, four(x, x, x, x), 0);
     show(one, four(both(6, 9), both(6, 8), x, x), 2);
@@ -134,6 +135,8 @@ fn table_of_document_01() {
     show(one, four(both(10, 11), x, x, x), 1);
     show(two, four(s, s, s, first(8)), 4);
     show(two, four(s, s, s, first(9)), 4);
+    show(two, four(m, m, m, second(9)), 4);
+    show(one, four(first(10), first(1), second(10), second(1)), 4);
     show(one, four(both(7, 7), x, x, x), 1);
     show(one, four(both(11, 10), x, x, x), 1);
 }

@@ -1,6 +1,6 @@
--- The steps end where the closed form says (`steps-closed`), and where they end within the room the kind is exactly full (`steps-full`).
--- One idea: a step leaves the closed form as it is. The row that is moved was the first in turn, so the closed form had it where the
--- step puts it; the other movable rows come after it, so that at their turns it was at its far end already. Assumes nothing.
+-- The steps end where the closed form says (`steps-closed`). One idea: a step leaves the closed form as it is. The row that is moved was the
+-- first in turn, so the closed form had it where the step puts it; the other movable rows come after it, so that at their turns it was at its
+-- far end already. Assumes nothing.
 use mathlib.Core.Path.{_≡_, refl, sym, ap, _∙_}
 use mathlib.Core.Bool.{Bool, true, false, false≢true, cond, not, _&&_, _||_}
 use mathlib.Core.List.{List}
@@ -190,31 +190,3 @@ steps-enough (suc n) w room rs ready enough =
 pub steps-closed : (n w room : ℕ) (rs : List Row) → Ready w rs → length rs ≤ n → stepsOf n w room rs ≡ closedOf w room rs
 steps-closed n w room rs ready enough =
     steps-enough n w room rs ready (omega (arith, waiting-most rs))
-
--- ---- the room is filled
-goes-full : {w room all : ℕ} {r v : Row} → Goes w room all r v → room + r .here ≤ all + v .here
-goes-full (end h) = h
-goes-full (part h more e) = omega arith
-
--- No step takes the ticks here below the room.
-steps-room : (n w room : ℕ) (rs : List Row) → Ready w rs → room ≤ hereSum rs → room ≤ hereSum (stepsOf n w room rs)
-unfolding stepsOf stepOf
-steps-room zero w room rs ready over = over
-steps-room (suc n) w room rs ready over =
-    go (leb (hereSum rs) room) (nextOf rs) (next-law w rs ready) (λ xs. steps-room n w room xs)
-  where
-    go : (t : Bool) (x : Next) → IsNext rs x
-        → ((xs : List Row) → Ready w xs → room ≤ hereSum xs → room ≤ hereSum (stepsOf n w room xs))
-        → room ≤ hereSum (cond t rs (stepsOf n w room (stepOf w room rs x)))
-    go true x next law = over
-    go false Nobody next law = law rs ready over
-    go false (At b r) next law =
-        let goes = step-goes w room rs ready b r next in
-        let v : Row = movedOf w room (hereSum rs) r in
-        law (set rs b v) (ready-set w rs b v (next .within) (moved-still w room (hereSum rs) r) ready)
-        (omega (arith, goes-full goes, step-sum w room rs ready b r next v))
-
--- Where a kind that was over is within its room after the steps, it is exactly full.
-pub steps-full : (n w room : ℕ) (rs : List Row) → Ready w rs → room < hereSum rs → hereSum (stepsOf n w room rs) ≤ room
-    → hereSum (stepsOf n w room rs) ≡ room
-steps-full n w room rs ready over within = omega (arith, steps-room n w room rs ready (omega arith))

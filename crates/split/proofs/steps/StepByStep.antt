@@ -32,7 +32,7 @@ steps-nobody (suc n) w room rs e = rw e (either (leb (hereSum rs) room) _ (steps
     either true x p = refl
     either false x p = p
 
-here-among : (rs : List Row) (i : ℕ) → getD rs i noRow .here ≤ hereSum rs
+pub here-among : (rs : List Row) (i : ℕ) → getD rs i noRow .here ≤ hereSum rs
 here-among [] i = omega arith
 here-among (r ∷ rs) zero = omega arith
 here-among (r ∷ rs) (suc i) = omega (arith, here-among rs i)

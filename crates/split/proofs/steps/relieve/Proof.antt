@@ -14,8 +14,8 @@ steps-requires c κs =
     let e = marked-rows (a .n) _ (a .far .now) (a .here .now) (a .there .now) _ (c .before .before .before .before .before .mark .ensures) in
     (search needs, rw e (start .pre .1))
 
-is-within-requires : tie.Need-is-within-requires
-is-within-requires c κs = search needs
+settle-requires : tie.Need-settle-requires
+settle-requires c κs = search needs
 
 same-length : tie.Need-same-length
 same-length c = search needs
@@ -27,7 +27,7 @@ same-length-3 : tie.Need-same-length-3
 same-length-3 c = search needs
 
 returns : tie.Need-returns
-returns c = relieves _ _ (c .before .before .before .before .before .before .before .before .before .before .before .before .before .mark .ensures) (c .before .before .before .before .before .before .before .steps .ensures) (c .is-within .ensures)
+returns c = relieves _ _ _ (c .before .before .before .before .before .before .before .before .before .before .before .before .before .mark .ensures) (c .before .before .before .before .before .before .before .steps .ensures) (c .settle .ensures)
 
 pub relieve-spec : {M : Type 1} → statement M
 relieve-spec =
@@ -35,7 +35,7 @@ relieve-spec =
     (tie.spec
     mark-requires
     steps-requires
-    is-within-requires
+    settle-requires
     same-length
     same-length-2
     same-length-3
