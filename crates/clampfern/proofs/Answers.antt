@@ -16,14 +16,14 @@ use Rattle.rows.proofs.Never.{never}
 use Rattle.model.specs.Limits.{jobsMost, slicesMost}
 use Rattle.model.specs.Refusal.{Answer, given, refused, saysRefusal, andThen}
 use Rattle.model.specs.declared.Refusal.{Refusal}
-use Rattle.planner.specs.Plan.{Plan}
+use Rattle.columns.specs.Plan.{Plan}
 use Rattle.planner.proofs.Causes.{plan-listed}
 use Rattle.planner.proofs.Demands.{listed-small}
 use Rattle.planner.proofs.PlanMoves.{plan-never-7}
 use Rattle.text.specs.Hex.{some}
-use Rattle.text.specs.Input.{Input, inputOf}
 use Rattle.text.specs.Output.{Writes}
 use Rattle.text.specs.declared.Written.the-variants.{Bytes}
+use Rattle.reader.specs.Input.{Input, inputOf}
 use Rattle.clampfern.specs.Answer.{planned, linesFor, answerText, Entered}
 use Rattle.clampfern.specs.Listed.{lastLine, TextListed, over, digits, unknown, job-first, board-later, empty, many, of-set}
 use Rattle.clampfern.specs.Said.{saidOf}

@@ -21,8 +21,9 @@ use Rattle.model.specs.declared.Job.{Job}
 use Rattle.model.specs.declared.Slice.{Slice}
 use Rattle.model.proofs.Splits.{all-done-length}
 use Rattle.legal.specs.Lawful.{Lawful}
-use Rattle.planner.specs.Plan.{Plan, planOf}
-use Rattle.planner.proofs.PlanLaws.{plan-shares, plan-kept, shares-lawful, shares-accepted, accepted-fits}
+use Rattle.columns.specs.Plan.{Plan, planOf}
+use Rattle.columns.proofs.PlanLaws.{shares-lawful, shares-accepted, accepted-fits}
+use Rattle.planner.proofs.PlanKept.{plan-shares, plan-kept}
 
 abbrev SmallSlice : Slice → Type 0
 SmallSlice s = (s .job < jobsMost) × (s .core < coresMost) × (s .start + s .length ≤ windowMost)

@@ -16,8 +16,8 @@ use Rattle.model.specs.declared.Board.{Board}
 use Rattle.model.specs.declared.Job.{Job}
 use Rattle.planner.proofs.Causes.{listed-plan}
 use Rattle.text.specs.Hex.{linesOf}
-use Rattle.text.specs.Input.{lineSays, asBoard, asJob, jobsFrom, inputFrom, inputOf}
-use Rattle.text.specs.declared.Entry.the-variants.{OfBoard, OfJob}
+use Rattle.reader.specs.Input.{lineSays, asBoard, asJob, jobsFrom, inputFrom, inputOf}
+use Rattle.reader.specs.declared.Entry.the-variants.{OfBoard, OfJob}
 use Rattle.clampfern.specs.Listed.{lineAt, lastLine, Good, board, job, Reached, TextListed, over, digits, unknown, job-first, board-later, empty, many, of-set}
 use Rattle.clampfern.proofs.Answers.{answerOf}
 

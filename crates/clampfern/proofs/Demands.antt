@@ -37,16 +37,16 @@ use Rattle.split.specs.Shares.{sharesOf}
 use Rattle.split.proofs.Causes.{six, fourteen, fifteen, sixteen}
 use Rattle.split.proofs.Demands.{room-only as only, exactly}
 use Rattle.slices.specs.Table.{tableOf}
+use Rattle.columns.specs.Plan.{Plan}
 use Rattle.planner.specs.Listed.{room}
-use Rattle.planner.specs.Plan.{Plan}
 use Rattle.planner.specs.Promise.{GoodPlan}
 use Rattle.planner.proofs.Causes.{plan-listed, listed-plan, listed-cause}
 use Rattle.planner.proofs.Lent.{plan-room}
-use Rattle.planner.proofs.PlanLaws.{plan-shares, plan-kept}
+use Rattle.planner.proofs.PlanKept.{plan-shares, plan-kept}
 use Rattle.text.specs.Hex.{Maybe, none, some}
-use Rattle.text.specs.Input.{Input, inputOf}
 use Rattle.text.specs.Output.{answerMost, Writes}
 use Rattle.text.specs.declared.Written.the-variants.{Bytes}
+use Rattle.reader.specs.Input.{Input, inputOf}
 use Rattle.clampfern.specs.Answer.{planned, answerText, Entered, Answered}
 use Rattle.clampfern.specs.Listed.{TextListed, over, digits, unknown, job-first, board-later, empty, many, of-set}
 use Rattle.clampfern.specs.Said.{saidOf, roomSaid}
@@ -132,7 +132,7 @@ module _ (asked : List ℕ) {bytes : List ℕ} (answer : bytes ≡ answerText as
   refusal-small says = text-listed-small (refused-exactly .0 says)
 
   module _ {board : Board} {js : List Job} (describes : Describes asked board js) where
-    -- Plan or refusal, the bytes say what the rules give for the set that the text describes (planOf, in the planner's specs).
+    -- Plan or refusal, the bytes say what the rules give for the set that the text describes (planOf, in the specs of columns).
     pub said-of-rules : saidOf bytes ≡ some (planned (record { board = board; jobs = js }))
     said-of-rules = rw describes at said
 

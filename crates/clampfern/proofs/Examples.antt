@@ -20,8 +20,8 @@ use Rattle.split.specs.Steps.{better, nextFrom, movedOf, stepOf, stepsOf}
 use Rattle.split.specs.Shares.{settled, byOver}
 use Rattle.slices.specs.Table.{chosen, piecesOf, cutOf, packed, tableOf}
 use Rattle.text.specs.Hex.{none, some, linesOf, nibbleOf, pairsOf, bytesOf, digitsOf, textOf, numberFrom}
-use Rattle.text.specs.Input.{jobIn, entryOf, jobsFrom, inputFrom, inputOf}
 use Rattle.text.specs.Output.{shareRecords}
+use Rattle.reader.specs.Input.{jobIn, entryOf, jobsFrom, inputFrom, inputOf}
 use Rattle.clampfern.specs.Answer.{answerText}
 use Rattle.clampfern.specs.Said.{allRead, shareRead, sharesRead, sliceRead, planRead, recordsSay, saidOf}
 

@@ -24,12 +24,12 @@ use Rattle.model.specs.declared.Board.{Board}
 use Rattle.model.specs.declared.Job.{Job}
 use Rattle.model.specs.declared.Slice.{Slice}
 use Rattle.text.specs.Hex.{Maybe, none, some, linesOf, joined, byteOf, atFront, pairsOf, nibbleOf, bytesOf, digitsOf}
-use Rattle.text.specs.Input.{Input, boardIn, entryJob, jobIn, entryOf as inputEntry, recordSays as inputSays, bytesSay as inputBytes, asBoard as inputBoard, jobsFrom, inputFrom, inputOf}
 use Rattle.text.specs.Output.{countRecord, shareRecord, shareRecords, sliceRecord, planRecords, planText}
-use Rattle.text.specs.Records.{Form, boardForm, jobForm, sizeOf, isA, field}
-use Rattle.text.specs.declared.Entry.{Entry as InputEntry}
-use Rattle.text.specs.declared.Entry.the-variants.{OfBoard}
+use Rattle.text.specs.Records.{Form, boardForm, jobForm, sizeOf, isA, field, boardIn}
 use Rattle.text.proofs.RoundTrip.{IsRecord, lines-back, bytes-back, inBytes-back}
+use Rattle.reader.specs.Input.{Input, entryJob, jobIn, entryOf as inputEntry, recordSays as inputSays, bytesSay as inputBytes, asBoard as inputBoard, jobsFrom, inputFrom, inputOf}
+use Rattle.reader.specs.declared.Entry.{Entry as InputEntry}
+use Rattle.reader.specs.declared.Entry.the-variants.{OfBoard}
 use Rattle.kernel.specs.Handed.{Entry, of-board, of-counts, of-share, of-slice, entryOf, formSays, Counts, slicesFrom, countsFrom, handedFrom, handedOf}
 use Rattle.clampfern.specs.Listed.{lineAt}
 

@@ -25,18 +25,18 @@ use Rattle.model.proofs.Columns.{costs-back}
 use Rattle.split.specs.Shares.{sharesOf}
 use Rattle.split.proofs.Seen.{shares-seen}
 use Rattle.slices.specs.Table.{tableOf}
-use Rattle.planner.specs.Plan.{Plan, Counts, fitted, planOf, columnsOf, sharesGiven, slicesGiven, countsIn, saysPlanned}
-use Rattle.planner.specs.Promise.{Columned}
-use Rattle.planner.specs.declared.Planned.{Planned}
-use Rattle.planner.specs.declared.Planned.the-variants.{Plan as Counted, Refused}
+use Rattle.columns.specs.Plan.{Plan, Counts, fitted, planOf, columnsOf, sharesGiven, slicesGiven, countsIn, saysPlanned}
+use Rattle.columns.specs.Promise.{Columned}
+use Rattle.columns.specs.declared.Planned.{Planned}
+use Rattle.columns.specs.declared.Planned.the-variants.{Plan as Counted, Refused}
+use Rattle.columns.proofs.ColumnFronts.{shares-front, slices-front}
+use Rattle.columns.proofs.PlanLaws.{table-asks}
 use Rattle.planner.proofs.Causes.{plan-listed}
-use Rattle.planner.proofs.ColumnFronts.{shares-front, slices-front}
 use Rattle.planner.proofs.Demands.{listed-small}
-use Rattle.planner.proofs.PlanLaws.{table-asks}
-use Rattle.text.specs.Input.{Input, Head, inputOf, inColumns, Gives, Reads}
 use Rattle.text.specs.Output.{planText}
-use Rattle.text.specs.declared.Reading.{Reading}
-use Rattle.text.specs.declared.Reading.the-variants.{Set, Refused as Unread}
+use Rattle.reader.specs.Input.{Input, Head, inputOf, inColumns, Gives, Reads}
+use Rattle.reader.specs.declared.Reading.{Reading}
+use Rattle.reader.specs.declared.Reading.the-variants.{Set, Refused as Unread}
 use Rattle.clampfern.specs.Answer.{planned, linesFor, answerText}
 use Rattle.clampfern.proofs.Answers.{text-listed-small}
 use Rattle.clampfern.proofs.Bounds.{small, narrow}

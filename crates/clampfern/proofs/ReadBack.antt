@@ -19,7 +19,7 @@ use Rattle.model.specs.declared.Kind.the-variants.{First, Second}
 use Rattle.model.specs.declared.Board.{Board}
 use Rattle.model.specs.declared.Job.{Job}
 use Rattle.model.specs.declared.Slice.{Slice}
-use Rattle.planner.specs.Plan.{Plan, planOf}
+use Rattle.columns.specs.Plan.{Plan, planOf}
 use Rattle.text.specs.Hex.{some, linesOf, bytesOf}
 use Rattle.text.specs.Output.{shareRecords, sliceRecord, planRecords, planText}
 use Rattle.text.proofs.RoundTrip.{IsRecord, read-back}

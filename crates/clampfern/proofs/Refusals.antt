@@ -19,10 +19,10 @@ use Rattle.model.specs.Refusal.{Answer, given, refused, andThen}
 use Rattle.model.specs.declared.Board.{Board}
 use Rattle.model.specs.declared.Job.{Job}
 use Rattle.text.specs.Hex.{Maybe, none, some, linesOf, bytesOf}
-use Rattle.text.specs.Input.{Input, entryOf, recordSays, bytesSay, lineSays, asBoard, asJob, jobsFrom, inputFrom, inputOf}
-use Rattle.text.specs.declared.Entry.{Entry}
-use Rattle.text.specs.declared.Entry.the-variants.{OfBoard, OfJob}
-use Rattle.text.proofs.Lines.{linesOf-first}
+use Rattle.reader.specs.Input.{Input, entryOf, recordSays, bytesSay, lineSays, asBoard, asJob, jobsFrom, inputFrom, inputOf}
+use Rattle.reader.specs.declared.Entry.{Entry}
+use Rattle.reader.specs.declared.Entry.the-variants.{OfBoard, OfJob}
+use Rattle.reader.proofs.Lines.{linesOf-first}
 use Rattle.clampfern.specs.Listed.{lineAt, lastLine, Good, board, job, Reached, TextListed, over, digits, unknown, job-first, board-later, empty, many}
 
 no-lines : (text : List ℕ) → linesOf text ≡ [] → text ≡ []

@@ -16,7 +16,7 @@ use Rattle.model.specs.declared.Kind.the-variants.{First, Second}
 use Rattle.model.specs.declared.Board.{Board}
 use Rattle.model.specs.declared.Job.{Job}
 use Rattle.model.specs.declared.Slice.{Slice}
-use Rattle.planner.specs.Plan.{Plan, planOf}
+use Rattle.columns.specs.Plan.{Plan, planOf}
 use Rattle.text.specs.Hex.{some, linesOf, bytesOf}
 use Rattle.text.specs.Output.{shareRecord, shareRecords, sliceRecord, planRecords, planText, refusedText, refusedRecords}
 use Rattle.text.proofs.RoundTrip.{read-back, inBytes-back}

@@ -10,14 +10,14 @@ use lib.ListN.{length, replicate}
 use Rattle.model.specs.Limits.{jobsMost, slicesMost}
 use Rattle.model.specs.Refusal.{Answer, given, refused, andThen}
 use Rattle.model.proofs.Splits.{all-done-length}
+use Rattle.columns.specs.Plan.{Plan, planOf, slicesGiven}
 use Rattle.planner.proofs.Examples.{board, jobs, most-slices}
-use Rattle.planner.specs.Plan.{Plan, planOf, slicesGiven}
-use Rattle.planner.proofs.PlanLaws.{plan-kept}
+use Rattle.planner.proofs.PlanKept.{plan-kept}
 use Rattle.text.specs.Hex.{linesOf, nibbleOf, pairsOf, bytesOf, digitsOf, textOf, numberFrom}
-use Rattle.text.specs.Input.{Input, jobIn, entryOf, jobsFrom, inputFrom, inputOf}
 use Rattle.text.specs.Records.{boardForm, jobForm, refusalForm, lineSize, recordOf}
 use Rattle.text.specs.Output.{answerMost}
 use Rattle.text.proofs.PlanText.{plan-length}
+use Rattle.reader.specs.Input.{Input, jobIn, entryOf, jobsFrom, inputFrom, inputOf}
 use Rattle.clampfern.specs.Answer.{planned, linesFor, answerText}
 use Rattle.clampfern.proofs.Bounds.{small}
 

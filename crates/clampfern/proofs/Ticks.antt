@@ -29,9 +29,10 @@ use Rattle.model.specs.declared.Board.{Board}
 use Rattle.model.specs.declared.Job.{Job}
 use Rattle.model.specs.declared.Slice.{Slice}
 use Rattle.model.proofs.Splits.{all-done-length}
-use Rattle.planner.specs.Plan.{Plan, planOf}
+use Rattle.columns.specs.Plan.{Plan, planOf}
+use Rattle.columns.proofs.PlanLaws.{shares-lawful}
 use Rattle.planner.specs.Promise.{GoodPlan}
-use Rattle.planner.proofs.PlanLaws.{plan-shares, plan-kept, shares-lawful}
+use Rattle.planner.proofs.PlanKept.{plan-shares, plan-kept}
 use Rattle.text.specs.Hex.{some}
 use Rattle.text.specs.Output.{planText}
 use Rattle.handler.specs.Running.{coresIn, Running, idle, runs, runningIn, askedOf}

@@ -13,9 +13,9 @@ use lib.Dec.{ltb}
 use lib.ListN.{length, replicate}
 use Rattle.model.specs.Limits.{jobsMost, slicesMost}
 use Rattle.model.specs.Refusal.{Answer, given, refused, andThen}
-use Rattle.planner.specs.Plan.{Plan, planOf}
-use Rattle.text.specs.Input.{Input, inputOf}
+use Rattle.columns.specs.Plan.{Plan, planOf}
 use Rattle.text.specs.Output.{planText, refusedText, written, answerMost}
+use Rattle.reader.specs.Input.{Input, inputOf}
 use Rattle.clampfern.specs.declared.AnswerLines.{AnswerLines}
 
 abbrev pub planned : Input → Answer Plan

@@ -16,8 +16,8 @@ use Rattle.model.specs.declared.Board.{Board}
 use Rattle.model.specs.declared.Job.{Job}
 use Rattle.planner.specs.Listed.{Listed}
 use Rattle.text.specs.Hex.{none, some, linesOf, bytesOf}
-use Rattle.text.specs.Input.{Input, entryOf, lineSays, inputOf}
-use Rattle.text.specs.declared.Entry.the-variants.{OfBoard, OfJob}
+use Rattle.reader.specs.Input.{Input, entryOf, lineSays, inputOf}
+use Rattle.reader.specs.declared.Entry.the-variants.{OfBoard, OfJob}
 
 abbrev pub lineAt : List ℕ → ℕ → List ℕ
 lineAt text i = getD (linesOf text) (i - 1) []

@@ -22,7 +22,7 @@ use Rattle.model.specs.Split.{Ticks, share}
 use Rattle.model.specs.declared.Kind.{Kind}
 use Rattle.model.specs.declared.Kind.the-variants.{First, Second}
 use Rattle.model.specs.declared.Slice.{Slice}
-use Rattle.planner.specs.Plan.{Plan}
+use Rattle.columns.specs.Plan.{Plan}
 use Rattle.text.specs.Hex.{Maybe, none, some, linesOf, bytesOf}
 use Rattle.text.specs.Records.{countsForm, shareForm, sliceForm, refusalForm, isA, field}
 

@@ -4,12 +4,13 @@ ghost use Rattle.model.specs.Columns.{jobsIn};
 ghost use Rattle.model.specs.Limits.{jobsMost, slicesMost};
 ghost use Rattle.model.specs.Refusal.{numberOf, placeOf};
 ghost use Rattle.model.specs.declared.Refusal.the-variants.{TooShort};
-ghost use Rattle.planner.specs.Plan.{planOf};
+ghost use Rattle.columns.specs.Plan.{planOf};
 ghost use Rattle.text.specs.Output.{refusedText, Writes};
 ghost use Rattle.clampfern.specs.Answer.{linesFor, answerText, Entered, Answered};
 
 mod entries;
 
+use columns::Planned;
 pub use entries::clampfern_pack;
 pub use entries::clampfern_packed_tick;
 pub use entries::clampfern_tick;
@@ -17,9 +18,8 @@ use model::Board;
 use model::JOBS_MOST;
 use model::Refusal;
 use model::SLICES_MOST;
-use planner::Planned;
+use reader::Reading;
 use text::ANSWER_MOST;
-use text::Reading;
 use text::Written;
 
 // The answer to a text by value: its lines, and how many bytes they have. All other bytes are zero.
@@ -49,7 +49,7 @@ fn answer_in(
     let mut shares1 = [0u16; JOBS_MOST];
     let mut shares2 = [0u16; JOBS_MOST];
     let mut slices = [0u64; SLICES_MOST];
-    let planned = planner::plan_columns(
+    let planned = columns::plan_columns(
         board,
         first,
         second,
@@ -72,7 +72,7 @@ pub fn plan_text(text: &[u8], out: &mut [u8]) -> Written
 {
     let mut first = [0u32; JOBS_MOST];
     let mut second = [0u32; JOBS_MOST];
-    match text::read(text, &mut first, &mut second) {
+    match reader::read(text, &mut first, &mut second) {
         Reading::Refused(refusal) => write_refused(refusal, out),
         Reading::Set(board, n) => answer_in(board, &first, &second, n, out),
     }

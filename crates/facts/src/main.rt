@@ -1,9 +1,11 @@
 // The program `facts`: of a set's text on standard input, the starting balance and the moves of each job, in decimal, or the set's refusal.
 //
 // It plans by the lent call, into tables that hold marks, and looks at every row after the call: with tables longer than the plan, exactly as long,
-// and each in turn a row too short. What it finds wrong it says in a last line. The promises of `planner` say that it never does; here they are run.
+// and each in turn a row too short. What it finds wrong it says in a last line. The promises of `columns` and `planner` say that it never does;
+// here they are run.
 ghost use Prim.Native.Nat.{_≤_};
 ghost use Rattle.model.specs.Limits.{jobsMost, slicesMost};
+use columns::Planned;
 use model::Board;
 use model::FirstTicks;
 use model::JOBS_MOST;
@@ -14,13 +16,12 @@ use model::SLICES_MOST;
 use model::SecondTicks;
 use model::Share;
 use model::Slice;
-use planner::Planned;
 use planner::PlannedMoves;
+use reader::Reading;
 use slices::Moves;
 use split::Balanced;
 use streams::Got;
 use streams::INPUT_MOST;
-use text::Reading;
 
 // What was planned into columns, and the rows that these then hold.
 struct Columns {
@@ -294,7 +295,7 @@ fn plan_in_columns(board: Board, jobs: [Job; JOBS_MOST], n: usize) -> Columns {
     let mut shares1 = [0u16; JOBS_MOST];
     let mut shares2 = [0u16; JOBS_MOST];
     let mut packed = [0u64; SLICES_MOST];
-    let planned = planner::plan_columns(
+    let planned = columns::plan_columns(
         board,
         &first,
         &second,
@@ -349,7 +350,7 @@ fn is_too_short(
     let mut shares1 = [65535u16; JOBS_MOST];
     let mut shares2 = [65535u16; JOBS_MOST];
     let mut packed = [65535u64; SLICES_MOST];
-    let planned = planner::plan_columns(
+    let planned = columns::plan_columns(
         board,
         &first,
         &second,
@@ -478,7 +479,7 @@ fn show(board: Board, jobs: [Job; JOBS_MOST], n: usize)
 fn show_text(text: &[u8]) {
     let mut first = [0u32; JOBS_MOST];
     let mut second = [0u32; JOBS_MOST];
-    match text::read(text, &mut first, &mut second) {
+    match reader::read(text, &mut first, &mut second) {
         Reading::Refused(refusal) => put_refused(refusal),
         Reading::Set(board, n) => {
             let jobs = jobs_of(first, second);

@@ -30,11 +30,13 @@ use Rattle.model.specs.declared.Slice.{Slice}
 use Rattle.model.proofs.Packed.{inside-narrow}
 use Rattle.model.proofs.Splits.{all-done-length}
 use Rattle.legal.specs.Lawful.{Lawful}
-use Rattle.planner.specs.Plan.{Plan, columnsOf, countsIn, saysPlanned, sharesGiven, slicesGiven}
-use Rattle.planner.specs.Promise.{Columned, GoodPlan, Promised}
-use Rattle.planner.specs.declared.Planned.the-variants.{Plan as Counted}
+use Rattle.columns.specs.Plan.{Plan, columnsOf, countsIn, saysPlanned, sharesGiven, slicesGiven}
+use Rattle.columns.specs.Promise.{Columned}
+use Rattle.columns.specs.declared.Planned.the-variants.{Plan as Counted}
+use Rattle.columns.proofs.PlanLaws.{counts-are, shares-lawful}
+use Rattle.planner.specs.Promise.{GoodPlan, Promised}
 use Rattle.planner.proofs.Demands.{rows-there, rows-by-rules}
-use Rattle.planner.proofs.PlanLaws.{counts-are, shares-lawful, plan-shares, columns-kept}
+use Rattle.planner.proofs.PlanKept.{plan-shares, columns-kept}
 use Rattle.handler.proofs.Tabled.{Tabled}
 
 module _ (board : Board) (n : ℕ) (js : List Job) where

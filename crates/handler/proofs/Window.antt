@@ -29,8 +29,9 @@ use Rattle.model.specs.declared.Refusal.{Refusal}
 use Rattle.model.specs.declared.Share.{Share}
 use Rattle.model.specs.declared.Slice.{Slice}
 use Rattle.legal.proofs.CheckByCheck.{Within}
-use Rattle.planner.specs.Promise.{Columned, Promised}
-use Rattle.planner.specs.declared.Planned.the-variants.{Plan}
+use Rattle.columns.specs.Promise.{Columned}
+use Rattle.columns.specs.declared.Planned.the-variants.{Plan}
+use Rattle.planner.specs.Promise.{Promised}
 use Rattle.handler.specs.Check.{checkOf}
 use Rattle.handler.specs.Position.{MovesOn}
 use Rattle.handler.specs.Running.{runs, askedOf, saysNamed}
@@ -115,7 +116,7 @@ module _ {board : Board} {ss : List Ticks} {rows : List Slice} {table : List ℕ
   named-place tick job kind core kind′ core′ e f =
       asked-place t tick job kind core kind′ core′ (heard tick kind core job e) (heard tick kind′ core′ job f)
 
--- ==== The table of a call of `planner::plan_columns`: two columns of costs, of n jobs, and what its columns held before it and hold after it, with
+-- ==== The table of a call of `columns::plan_columns`: two columns of costs, of n jobs, and what its columns held before it and hold after it, with
 -- a prime. It answered that it planned so many jobs and slices; the slices at the front of its column are the handler's table.
 module _ {board : Board} {n : ℕ} (costs1 costs2 : List ℕ) {s1 s2 rows s1′ s2′ rows′ : List ℕ} {jobs slices : ℕ}
     (planned : Columned board n (jobsIn n costs1 costs2) s1 s2 rows (Plan jobs slices) s1′ s2′ rows′) where

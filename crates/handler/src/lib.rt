@@ -1,5 +1,5 @@
 // The tick handler: whether a table of slices can be run, which job runs on a core at a tick, and the position in the window, which goes round.
-// docs/SPEC.md, "The tick handler". A table is a column of numbers, a slice each, as `planner::plan_columns` writes it.
+// docs/SPEC.md, "The tick handler". A table is a column of numbers, a slice each, as `columns::plan_columns` writes it.
 // It calls nothing of the planner. proofs/Window.antt shows what the planner's promises make of it: over a window each job gets its share.
 ghost use mathlib.Core.Path.{_≡_};
 ghost use lib.ListN.{length};

@@ -14,10 +14,10 @@ use Rattle.model.specs.Refusal.{given, refused}
 use Rattle.model.specs.declared.Board.{Board}
 use Rattle.text.specs.Hex.{none, some, numberFrom, numberIn}
 use Rattle.text.specs.Records.{Form, boardForm, countsForm, shareForm, sliceForm, sizeOf, isA, field}
-use Rattle.text.specs.Cut.{lineLength, lineIn, CutAt}
-use Rattle.text.specs.declared.Cut.{Cut}
-use Rattle.text.proofs.Cuts.{Spelled, cut-none, cut-spelled}
-use Rattle.text.proofs.Forms.{isA-by, head-parts, board-parts}
+use Rattle.reader.specs.Cut.{lineLength, lineIn, CutAt}
+use Rattle.reader.specs.declared.Cut.{Cut}
+use Rattle.reader.proofs.Cuts.{Spelled, cut-none, cut-spelled}
+use Rattle.reader.proofs.Forms.{isA-by, head-parts, board-parts}
 use Rattle.packed.specs.Packed.{isSlice, sliceOf}
 use Rattle.kernel.specs.Handed.{of-board, of-counts, of-share, of-slice, entryOf, recordSays, formSays}
 use Rattle.kernel.specs.Reading.{sliceSays}

@@ -10,9 +10,9 @@ use Rattle.model.specs.Limits.{textMost}
 use Rattle.model.specs.Refusal.{given, refused, andThen}
 use Rattle.model.specs.declared.Board.{Board}
 use Rattle.text.specs.Hex.{linesOf}
-use Rattle.text.specs.Cut.{lineLength, lineIn, CutAt}
-use Rattle.text.specs.declared.Cut.{Cut}
-use Rattle.text.proofs.Lines.{linesOf-at}
+use Rattle.reader.specs.Cut.{lineLength, lineIn, CutAt}
+use Rattle.reader.specs.declared.Cut.{Cut}
+use Rattle.reader.proofs.Lines.{linesOf-at}
 use Rattle.kernel.specs.Handed.{Entry, formSays, asBoard, Counts, asCounts, countsFrom, handedFrom, handedOf}
 use Rattle.kernel.specs.Reading.{tableFrom}
 use Rattle.kernel.proofs.Entries.{says-end}

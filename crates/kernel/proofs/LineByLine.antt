@@ -15,10 +15,10 @@ use Rattle.model.specs.Packed.{packOf}
 use Rattle.model.specs.Refusal.{Answer, given, refused, andThen}
 use Rattle.model.specs.declared.Slice.{Slice}
 use Rattle.text.specs.Hex.{linesOf}
-use Rattle.text.specs.Cut.{lineLength, lineIn, CutAt}
-use Rattle.text.specs.declared.Cut.{Cut}
-use Rattle.text.proofs.Answers.{onto, onto-none, onto-more, andThen-assoc}
-use Rattle.text.proofs.Lines.{linesOf-at}
+use Rattle.reader.specs.Cut.{lineLength, lineIn, CutAt}
+use Rattle.reader.specs.declared.Cut.{Cut}
+use Rattle.reader.proofs.Answers.{onto, onto-none, onto-more, andThen-assoc}
+use Rattle.reader.proofs.Lines.{linesOf-at}
 use Rattle.kernel.specs.Handed.{Entry, of-board, of-counts, of-share, of-slice, lineSays, Counts, inPlace, slicesFrom}
 use Rattle.kernel.specs.Reading.{rowSays}
 use Rattle.kernel.proofs.Entries.{says-end}

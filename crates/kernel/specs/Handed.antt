@@ -30,9 +30,8 @@ use Rattle.model.specs.Refusal.{Answer, given, refused, andThen}
 use Rattle.model.specs.declared.Board.{Board}
 use Rattle.model.specs.declared.Slice.{Slice}
 use Rattle.text.specs.Hex.{Maybe, none, some, linesOf, bytesOf}
-use Rattle.text.specs.Input.{boardIn}
 use Rattle.text.specs.Output.{saysWritten}
-use Rattle.text.specs.Records.{boardForm, countsForm, shareForm, isA, field}
+use Rattle.text.specs.Records.{boardForm, countsForm, shareForm, isA, field, boardIn}
 use Rattle.text.specs.declared.Written.{Written}
 use Rattle.handler.specs.Running.{Running, askedOf}
 use Rattle.packed.specs.Packed.{isSlice, sliceOf, Packs}

@@ -28,8 +28,8 @@ use Rattle.model.specs.declared.Board.{Board}
 use Rattle.model.specs.declared.Kind.{Kind}
 use Rattle.model.specs.declared.Slice.{Slice}
 use Rattle.text.specs.Hex.{Maybe, none, some}
-use Rattle.text.specs.Cut.{lineIn, CutAt}
-use Rattle.text.specs.declared.Cut.{Cut}
+use Rattle.reader.specs.Cut.{lineIn, CutAt}
+use Rattle.reader.specs.declared.Cut.{Cut}
 use Rattle.kernel.specs.Handed.{Entry, of-board, of-counts, of-share, of-slice, formSays, lineSays, Counts, inPlace, slicesFrom, Handed, columnOf}
 use Rattle.kernel.specs.declared.lines.Said.{Said}
 use Rattle.kernel.specs.declared.lines.Said.the-variants.{OfBoard, OfCounts, OfShare, OfSlice}

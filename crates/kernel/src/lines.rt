@@ -1,5 +1,5 @@
 // The reader of the lines: a board and the rows of its table, or the refusal of the first bad line. docs/SPEC.md, "The tick handler", and refusals
-// 8, 9 and 10. Hexadecimal is read by crate text: a line comes from it as numbers, cut where a job's fields begin.
+// 8, 9 and 10. Hexadecimal is read by crate reader: a line comes from it as numbers, cut where a job's fields begin.
 ghost use mathlib.Core.Bool.{_&&_};
 ghost use mathlib.Core.Path.{_≡_};
 ghost use Prim.Native.Nat.{_/_, _≤_};
@@ -15,7 +15,7 @@ use model::Kind;
 use model::Refusal;
 use model::Slice;
 use model::TEXT_MOST;
-use text::Cut;
+use reader::Cut;
 
 // What a line says by its form.
 enum Said {
@@ -188,7 +188,7 @@ fn read_rows(
     let mut i: u32 = 3;
     let mut at = from;
     while at < lines.len() {
-        let cut = text::cut_at(lines, at);
+        let cut = reader::cut_at(lines, at);
         match row_of(jobs, slices, cut, i) {
             Row::Refused(refusal) => {
                 return Table::Refused(refusal);
@@ -216,7 +216,7 @@ fn read_counts(lines: &[u8], from: usize, board: Board, rows: &mut [u64]) -> Tab
     if lines.len() <= from {
         return Table::Refused(Refusal::Order(2));
     }
-    let cut = text::cut_at(lines, from);
+    let cut = reader::cut_at(lines, from);
     match form_says(cut, 2) {
         Line::Refused(refusal) => Table::Refused(refusal),
         Line::Says(said) => match said {
@@ -241,7 +241,7 @@ pub(crate) fn read_lines(lines: &[u8], rows: &mut [u64]) -> Table
     if lines.len() == 0 {
         return Table::Refused(Refusal::Order(1));
     }
-    let cut = text::cut_at(lines, 0);
+    let cut = reader::cut_at(lines, 0);
     match form_says(cut, 1) {
         Line::Refused(refusal) => Table::Refused(refusal),
         Line::Says(said) => match said {

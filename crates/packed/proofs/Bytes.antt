@@ -15,8 +15,7 @@ use Rattle.rows.proofs.Never.{never}
 use Rattle.model.specs.Packed.{kindNumber, kindOf}
 use Rattle.model.specs.declared.Kind.the-variants.{First, Second}
 use Rattle.text.specs.Hex.{numberFrom, numberIn}
-use Rattle.text.specs.Input.{boardIn}
-use Rattle.text.specs.Records.{boardForm, sliceForm, sizeOf}
+use Rattle.text.specs.Records.{boardForm, sliceForm, sizeOf, boardIn}
 use Rattle.handler.specs.Running.{isAt}
 use Rattle.packed.specs.Packed.{isSlice, sliceOf}
 use Rattle.packed.specs.Asking.{isHeaded}

@@ -16,8 +16,7 @@ use Rattle.rows.proofs.Never.{never}
 use Rattle.rows.proofs.Upto.{upto-length, upto-at, upto-left, upto-none, upto-all}
 use Rattle.model.specs.Refusal.{Answer, given, refused}
 use Rattle.model.specs.declared.Board.{Board}
-use Rattle.text.specs.Input.{boardIn}
-use Rattle.text.specs.Records.{boardForm, sizeOf}
+use Rattle.text.specs.Records.{boardForm, sizeOf, boardIn}
 use Rattle.handler.specs.Running.{Running, idle, runs, isBeyond, isAt, runningIn}
 use Rattle.packed.specs.Packed.{rowBytes, isSlice, countIn, isPacked, sliceOf, rowsIn, packedAsked}
 use Rattle.packed.specs.Asking.{isHeaded, areSlices, rowsAsked}

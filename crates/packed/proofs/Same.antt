@@ -24,9 +24,8 @@ use Rattle.model.specs.declared.Kind.{Kind}
 use Rattle.model.specs.declared.Kind.the-variants.{First, Second}
 use Rattle.model.specs.declared.Slice.{Slice}
 use Rattle.text.specs.Hex.{numberFrom, numberIn}
-use Rattle.text.specs.Input.{boardIn}
 use Rattle.text.specs.Output.{sliceRecord}
-use Rattle.text.specs.Records.{boardForm, sliceForm, sizeOf}
+use Rattle.text.specs.Records.{boardForm, sliceForm, sizeOf, boardIn}
 use Rattle.text.specs.declared.Written.the-variants.{Bytes}
 use Rattle.text.proofs.RoundTrip.{inBytes-back}
 use Rattle.handler.specs.Check.{checkOf}

@@ -11,8 +11,7 @@ use lib.ListN.{length, take}
 use Rattle.rows.specs.Lists.{lowest}
 use Rattle.rows.specs.Upto.{upto}
 use Rattle.model.specs.Refusal.{Answer, given, refused}
-use Rattle.text.specs.Input.{boardIn}
-use Rattle.text.specs.Records.{boardForm, sliceForm, sizeOf, isA}
+use Rattle.text.specs.Records.{boardForm, sliceForm, sizeOf, isA, boardIn}
 use Rattle.handler.specs.Running.{Running, isBeyond, runningIn}
 use Rattle.packed.specs.Packed.{rowBytes, isSlice, countIn, rowsIn}
 

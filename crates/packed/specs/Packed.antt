@@ -27,9 +27,8 @@ use Rattle.model.specs.Packed.{kindOf, slicesIn}
 use Rattle.model.specs.Refusal.{Answer, given, refused, andThen}
 use Rattle.model.specs.declared.Board.{Board}
 use Rattle.model.specs.declared.Slice.{Slice}
-use Rattle.text.specs.Input.{boardIn}
 use Rattle.text.specs.Output.{sliceRecord, saysWritten}
-use Rattle.text.specs.Records.{boardForm, sliceForm, sizeOf, recordOf, isA, field}
+use Rattle.text.specs.Records.{boardForm, sliceForm, sizeOf, recordOf, isA, field, boardIn}
 use Rattle.text.specs.declared.Written.{Written}
 use Rattle.handler.specs.Check.{checkOf}
 use Rattle.handler.specs.Running.{Running, isBeyond, runningIn}

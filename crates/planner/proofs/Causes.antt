@@ -19,8 +19,6 @@ use Rattle.model.specs.Empty.{noJob}
 use Rattle.model.specs.Limits.{costMost}
 use Rattle.model.specs.Refusal.{Answer, given, refused, andThen}
 use Rattle.model.specs.Split.{Ticks}
-use Rattle.model.specs.declared.Kind.{Kind}
-use Rattle.model.specs.declared.Kind.the-variants.{First, Second}
 use Rattle.model.specs.declared.Board.{Board}
 use Rattle.model.specs.declared.Job.{Job}
 use Rattle.model.specs.declared.Job.the-variants.{Both, OnlyFirst, OnlySecond}
@@ -34,9 +32,9 @@ use Rattle.split.specs.Promise.{Accepted}
 use Rattle.split.proofs.Causes.{refused-for-room}
 use Rattle.split.proofs.Demands.{split-caused}
 use Rattle.slices.specs.Table.{tableOf}
+use Rattle.columns.specs.Plan.{Plan, planFrom, fitted, planOf}
+use Rattle.columns.proofs.PlanLaws.{shares-accepted, accepted-few}
 use Rattle.planner.specs.Listed.{BadCost, TooLong, Sound, stepsOn, ShortTables, Listed, window, cores, many, cost, long, room, space}
-use Rattle.planner.specs.Plan.{Plan, planFrom, fitted, planOf}
-use Rattle.planner.proofs.PlanLaws.{shares-accepted, accepted-few}
 
 -- ---- what the checks of one job tell
 cost-tells : (j : Job) → Tells (BadCost j) (badCost j)

@@ -35,11 +35,12 @@ use Rattle.split.specs.Promise.{stretchedOn, SmallerSplit}
 use Rattle.split.specs.Shares.{sharesOf}
 use Rattle.split.proofs.Causes.{six, fourteen, fifteen, sixteen, cause-numbered}
 use Rattle.split.proofs.Demands.{cause-room}
+use Rattle.columns.specs.Plan.{Counts, planOf, countsIn, saysPlanned}
+use Rattle.columns.specs.Promise.{Columned}
+use Rattle.columns.specs.declared.Planned.{Planned}
+use Rattle.columns.specs.declared.Planned.the-variants.{Plan, Refused}
 use Rattle.planner.specs.Listed.{BadCost, TooLong, LowestOf, ShortTables, Listed, window, cores, many, cost, long, room, space}
-use Rattle.planner.specs.Plan.{Counts, planOf, countsIn, saysPlanned}
-use Rattle.planner.specs.Promise.{Columned, Promised}
-use Rattle.planner.specs.declared.Planned.{Planned}
-use Rattle.planner.specs.declared.Planned.the-variants.{Plan, Refused}
+use Rattle.planner.specs.Promise.{Promised}
 use Rattle.planner.proofs.Causes.{plan-listed, listed-plan, listed-cause, short-tables, lawful-left}
 use Rattle.planner.proofs.FromPromise.{plan-there, rows-pair, refusal-by-rules}
 use Rattle.planner.proofs.Lent.{counts-room, plan-room, room-alike}

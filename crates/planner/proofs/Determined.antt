@@ -1,41 +1,19 @@
--- The contracts of this crate determine their results: the answer is taken back from what it says, and every row is told.
---   plan_columns ↦ columns-once, the answer with every number of each lent column after the call
+-- The contracts of this crate determine their results: the answer is taken back from what it says (crate columns), and every row is told.
 --   moves ↦ moves-once
 --   plan ↦ plan-once, the answer with both lent tables after the call
 -- Assumes nothing.
-use mathlib.Core.Path.{_≡_, refl, ap}
+use mathlib.Core.Path.{_≡_, refl}
 use borrow.Fn.Claims.{AllOf}
 use borrow.Fn.Read.{Read, no-know, all-models, r-last}
 use base.Logic.{emp}
 use contract.Lifetimes.{Lfts}
 use denote.Triple.Clauses.{AtExit}
 use denote.Triple.Entry.{Args}
-use Rattle.model.specs.Refusal.{Answer}
-use Rattle.model.proofs.Determined.{Determines, Once, said-once, refusal-back, answerOf}
-use Rattle.planner.specs.Plan.{Counts, saysPlanned}
-use Rattle.planner.specs.declared.Planned.{Planned}
-use Rattle.planner.specs.declared.Planned.the-variants.{Plan, Refused}
+use Rattle.model.proofs.Determined.{Determines}
+use Rattle.columns.specs.declared.Planned.{Planned}
+use Rattle.columns.proofs.Determined.{planned-once}
 use Rattle.planner.proofs.plan
-use Rattle.planner.proofs.plan_columns
 use Rattle.planner.proofs.moves
-
-abbrev plannedOf : Answer Counts → Planned
-plannedOf = answerOf (λ c. Plan (c .jobs) (c .slices)) Refused
-
-planned-back : (r : Planned) → plannedOf (saysPlanned r) ≡ r
-planned-back (Plan jobs slices) = refl
-planned-back (Refused r) = ap Refused (refusal-back r)
-
-planned-once : (counts : Answer Counts) → Once (λ (r : Planned). saysPlanned r ≡ counts)
-planned-once = said-once saysPlanned plannedOf planned-back
-
-pub columns-once : Determines plan_columns.ended plan_columns.Reads.Learnt
-columns-once κs args r s p q =
-    let answer : r .0 ≡ s .0 = planned-once _ (r .0) (s .0) (p .says) (q .says) in
-    let first : r .1 .1 .1 .1 .1 .0 ≡ s .1 .1 .1 .1 .1 .0 = cc in
-    let second : r .1 .1 .1 .1 .1 .1 .0 ≡ s .1 .1 .1 .1 .1 .1 .0 = cc in
-    let slices : r .1 .1 .1 .1 .1 .1 .1 .0 ≡ s .1 .1 .1 .1 .1 .1 .1 .0 = cc in
-    λ i. (answer i, (tt, (tt, (tt, (tt, (first i, (second i, (slices i, tt))))))))
 
 pub moves-once : Determines moves.ended moves.Reads.Learnt
 moves-once κs args r s p q =

@@ -24,7 +24,7 @@ use Rattle.split.specs.Steps.{better, nextFrom, movedOf, stepOf, stepsOf}
 use Rattle.slices.specs.Moves.{laterIf, latest, moves}
 use Rattle.slices.specs.Table.{chosen, piecesOf, cutOf, packed, tableOf}
 use Rattle.slices.specs.declared.Moves.{Moves}
-use Rattle.planner.specs.Plan.{planOf, sharesGiven, slicesGiven}
+use Rattle.columns.specs.Plan.{planOf, sharesGiven, slicesGiven}
 use Rattle.planner.specs.PlanMoves.{movesIn, roomyPlan}
 
 abbrev pub board : Board

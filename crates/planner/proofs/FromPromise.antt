@@ -26,10 +26,10 @@ use Rattle.model.specs.declared.Share.{Share}
 use Rattle.model.specs.declared.Slice.{Slice}
 use Rattle.model.proofs.ShareRow.{rows-back}
 use Rattle.model.proofs.Splits.{all-done-length}
-use Rattle.planner.specs.Plan.{Plan, Counts, planOf, sharesGiven, slicesGiven, countsIn, saysPlanned}
+use Rattle.columns.specs.Plan.{Plan, Counts, planOf, sharesGiven, slicesGiven, countsIn, saysPlanned}
+use Rattle.columns.specs.declared.Planned.the-variants.{Plan as Counted, Refused}
+use Rattle.columns.proofs.PlanLaws.{counts-are}
 use Rattle.planner.specs.Promise.{Promised}
-use Rattle.planner.specs.declared.Planned.the-variants.{Plan as Counted, Refused}
-use Rattle.planner.proofs.PlanLaws.{counts-are}
 
 pub record PlanThere (board : Board) (js : List Job) (ss ss′ : List Share) (ls ls′ : List Slice) (jobs slices : ℕ) : Type 0 where
   pub all : jobs ≡ length js

@@ -33,13 +33,13 @@ use Rattle.split.specs.Shares.{sharesOf}
 use Rattle.split.proofs.Demands.{room-only, exactly}
 use Rattle.split.proofs.Seen.{shares-read}
 use Rattle.slices.specs.Table.{tableOf}
-use Rattle.planner.specs.Plan.{Plan, Counts, planFrom, fitted, planOf, sharesGiven, slicesGiven, countsIn, saysPlanned}
+use Rattle.columns.specs.Plan.{Plan, Counts, planFrom, fitted, planOf, sharesGiven, slicesGiven, countsIn, saysPlanned}
+use Rattle.columns.specs.declared.Planned.{Planned}
+use Rattle.columns.specs.declared.Planned.the-variants.{Plan as Counted, Refused}
 use Rattle.planner.specs.Promise.{Unchanged, Served, Promised}
 use Rattle.planner.specs.ByValue.{Filled}
-use Rattle.planner.specs.declared.Planned.{Planned}
-use Rattle.planner.specs.declared.Planned.the-variants.{Plan as Counted, Refused}
 use Rattle.planner.specs.declared.Tables.{Tables}
-use Rattle.planner.proofs.PlanLaws.{plan-kept}
+use Rattle.planner.proofs.PlanKept.{plan-kept}
 
 abbrev pub read : Kind → List Job → ℕ → List ℕ
 read kind js few = map (costOn kind) (take few js) ++ replicate (jobsMost - few) 0

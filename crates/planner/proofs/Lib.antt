@@ -14,13 +14,9 @@ mod Determined
 -- Sets that reach the bounds of a plan, and the moves of one, worked out.
 pub mod Examples
 --
--- The laws of plans: what an answer counts, and that a plan keeps demand 2.
-pub mod PlanLaws
--- The first numbers of a column are what was put there.
-pub mod ColumnFronts
--- The promise of `plan_columns`, of each of its answers.
-mod PlanColumns
--- The promise of `plan_tables`, from that of `plan_columns`.
+-- A plan keeps demand 2.
+pub mod PlanKept
+-- The promise of `plan_tables`, from that of `columns::plan_columns`.
 mod PlanTables
 -- The promise of `plan`, from that of `plan_tables` and of the functions over rows of records.
 pub mod Lent

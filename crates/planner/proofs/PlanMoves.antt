@@ -46,13 +46,14 @@ use Rattle.slices.specs.Moves.{movesOf}
 use Rattle.slices.specs.Table.{tableOf}
 use Rattle.slices.specs.declared.Moves.{Moves}
 use Rattle.slices.proofs.JobMoves.{mover-moves, other-moves, many-moves, table-moves, table-moves-few}
+use Rattle.columns.specs.Plan.{Plan, planFrom, fitted, sharesGiven, slicesGiven, Counts, countsIn, saysPlanned}
+use Rattle.columns.proofs.ColumnFronts.{slices-take}
+use Rattle.columns.proofs.PlanLaws.{shares-lawful, shares-accepted, accepted-few, shares-fit}
 use Rattle.planner.specs.PlanMoves.{movesIn, noMoves, roomyPlan, MovesPromised}
 use Rattle.planner.specs.ByValue.{Filled}
-use Rattle.planner.specs.Plan.{Plan, planFrom, fitted, sharesGiven, slicesGiven, Counts, countsIn, saysPlanned}
 use Rattle.planner.specs.declared.PlannedMoves.{PlannedMoves}
 use Rattle.planner.specs.declared.Tables.{Tables}
-use Rattle.planner.proofs.ColumnFronts.{slices-take}
-use Rattle.planner.proofs.PlanLaws.{shares-lawful, shares-accepted, accepted-few, shares-fit, plan-shares}
+use Rattle.planner.proofs.PlanKept.{plan-shares}
 
 -- ---- the code's tables
 moves-in : (x : Answer Plan) → movesIn x ≡ upto (length (sharesGiven x)) (movesOf (slicesGiven x))

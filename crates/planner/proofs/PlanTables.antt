@@ -24,16 +24,16 @@ use Rattle.model.proofs.Packed.{inside-narrow}
 use Rattle.split.specs.Shares.{sharesOf}
 use Rattle.slices.specs.Table.{tableOf}
 use Rattle.slices.proofs.Timetabled.{table-timetable}
-use Rattle.planner.specs.Plan.{Plan, planFrom, planOf, sharesGiven, slicesGiven, countsIn, saysPlanned, columnsOf}
+use Rattle.columns.specs.Plan.{Plan, planFrom, planOf, sharesGiven, slicesGiven, countsIn, saysPlanned, columnsOf}
+use Rattle.columns.specs.Promise.{Columned}
+use Rattle.columns.specs.declared.Planned.{Planned}
+use Rattle.columns.specs.declared.Planned.the-variants.{Plan as Counted, Refused}
+use Rattle.columns.proofs.PlanLaws.{counts-are, shares-lawful, shares-fit, table-asks}
+use Rattle.columns.proofs.ColumnFronts.{shares-front, slices-front}
+use Rattle.columns.proofs.PlanColumns.{ticksAfter, slicesAfter}
 use Rattle.planner.specs.ByValue.{noRows, fitOf, Filled}
-use Rattle.planner.specs.Promise.{Columned}
 use Rattle.planner.specs.declared.Fitted.{Fitted}
-use Rattle.planner.specs.declared.Planned.{Planned}
-use Rattle.planner.specs.declared.Planned.the-variants.{Plan as Counted, Refused}
 use Rattle.planner.specs.declared.Tables.{Tables}
-use Rattle.planner.proofs.PlanLaws.{counts-are, shares-lawful, shares-fit, table-asks}
-use Rattle.planner.proofs.ColumnFronts.{shares-front, slices-front}
-use Rattle.planner.proofs.PlanColumns.{ticksAfter, slicesAfter}
 
 module _ (board : Board) (n : ℕ) (js : List Job) (m k : ℕ) where
   filled-none : (r : Refusal) (s1′ s2′ rows′ : List ℕ) → saysRefusal r ≡ planOf board n js m k

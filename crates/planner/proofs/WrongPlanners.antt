@@ -37,10 +37,10 @@ use Rattle.model.specs.declared.Slice.{Slice}
 use Rattle.legal.specs.Lawful.{LegalJob, Lawful}
 use Rattle.split.specs.Home.{stretchedAt}
 use Rattle.split.specs.Promise.{stretchedOn, SmallerSplit}
-use Rattle.planner.specs.Plan.{planOf, slicesGiven}
+use Rattle.columns.specs.Plan.{planOf, slicesGiven}
+use Rattle.columns.specs.declared.Planned.{Planned}
+use Rattle.columns.specs.declared.Planned.the-variants.{Plan as Counted, Refused}
 use Rattle.planner.specs.Promise.{Promised}
-use Rattle.planner.specs.declared.Planned.{Planned}
-use Rattle.planner.specs.declared.Planned.the-variants.{Plan as Counted, Refused}
 use Rattle.planner.proofs.Demands.{rows-there, rows-by-rules, job-whole, job-served, slice-inside, split-planned}
 
 pub record Result : Type 0 where

@@ -16,10 +16,10 @@ use Rattle.model.specs.declared.Board.{Board}
 use Rattle.model.specs.declared.Job.{Job}
 use Rattle.model.specs.declared.Refusal.{Refusal}
 use Rattle.model.specs.declared.Refusal.the-variants.{TooShort}
-use Rattle.planner.specs.Plan.{planOf, sharesGiven, slicesGiven, countsIn, saysPlanned}
+use Rattle.columns.specs.Plan.{planOf, sharesGiven, slicesGiven, countsIn, saysPlanned}
+use Rattle.columns.specs.declared.Planned.{Planned}
+use Rattle.columns.specs.declared.Planned.the-variants.{Plan as Counted, Refused}
 use Rattle.planner.specs.declared.Fitted.{Fitted}
-use Rattle.planner.specs.declared.Planned.{Planned}
-use Rattle.planner.specs.declared.Planned.the-variants.{Plan as Counted, Refused}
 use Rattle.planner.specs.declared.Tables.{Tables}
 
 abbrev pub noRows : Refusal → Fitted

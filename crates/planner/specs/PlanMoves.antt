@@ -15,7 +15,7 @@ use Rattle.model.specs.declared.Board.{Board}
 use Rattle.model.specs.declared.Job.{Job}
 use Rattle.slices.specs.Moves.{moves, movesOf}
 use Rattle.slices.specs.declared.Moves.{Moves}
-use Rattle.planner.specs.Plan.{Plan, planOf, countsIn, saysPlanned}
+use Rattle.columns.specs.Plan.{Plan, planOf, countsIn, saysPlanned}
 use Rattle.planner.specs.declared.PlannedMoves.{PlannedMoves}
 
 abbrev pub movesIn : Answer Plan → List Moves

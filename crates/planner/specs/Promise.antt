@@ -1,5 +1,4 @@
 -- What the planning call promises: docs/SPEC.md, "What is promised of every set".
---   Columned    the plan in columns: the answer, and every number of each column
 --   Unchanged   demand 1: a refusal changes no row of the lent tables
 --   GoodPlan    what demand 2 says of a plan: its shares are a split in whole ticks, at most m1 + m2 of them move and at most one mover is
 --               not even, and its rows are a timetable of them, at most n + 2·(m1 + m2) − 2
@@ -11,15 +10,14 @@ use mathlib.Core.Bool.{true}
 use mathlib.Core.List.{List, map}
 use mathlib.Core.Logic.{_↔_}
 use mathlib.Core.Path.{_≡_}
-use Prim.Native.Nat.{ℕ, _+_, _*_, _≤_}
+use Prim.Native.Nat.{_+_, _*_, _≤_}
 use lib.ListN.{length, take}
 use Rattle.rows.specs.Lists.{front}
 use Rattle.model.specs.Board.{roomOf}
 use Rattle.model.specs.Movers.{movers, unevens}
 use Rattle.model.specs.Refusal.{given, roomRefusal}
-use Rattle.model.specs.Packed.{packOf}
 use Rattle.model.specs.ShareRow.{rowOf, ticksOfRow}
-use Rattle.model.specs.Split.{Ticks, ticksOn, WholeSplit}
+use Rattle.model.specs.Split.{Ticks, WholeSplit}
 use Rattle.model.specs.Timetable.{Timetable}
 use Rattle.model.specs.declared.Kind.the-variants.{First, Second}
 use Rattle.model.specs.declared.Board.{Board}
@@ -28,16 +26,9 @@ use Rattle.model.specs.declared.Share.{Share}
 use Rattle.model.specs.declared.Slice.{Slice}
 use Rattle.legal.specs.Legal.{legalOf}
 use Rattle.split.specs.Promise.{SplitOn, SmallerSplit, stretchedOn}
-use Rattle.planner.specs.Plan.{planOf, columnsOf, sharesGiven, slicesGiven, countsIn, saysPlanned}
-use Rattle.planner.specs.declared.Planned.{Planned}
-use Rattle.planner.specs.declared.Planned.the-variants.{Plan, Refused}
-
--- What the columns hold before the call, and after it with a prime: new numbers at the front of each, and the others as they were.
-pub record Columned (board : Board) (n : ℕ) (js : List Job) (s1 s2 rows : List ℕ) (r : Planned) (s1′ s2′ rows′ : List ℕ) : Type 0 where
-  pub says : saysPlanned r ≡ countsIn (columnsOf board n js (length s1) (length s2) (length rows))
-  pub first : s1′ ≡ front (map (ticksOn First) (sharesGiven (columnsOf board n js (length s1) (length s2) (length rows)))) s1
-  pub second : s2′ ≡ front (map (ticksOn Second) (sharesGiven (columnsOf board n js (length s1) (length s2) (length rows)))) s2
-  pub slices : rows′ ≡ front (map packOf (slicesGiven (columnsOf board n js (length s1) (length s2) (length rows)))) rows
+use Rattle.columns.specs.Plan.{planOf, sharesGiven, slicesGiven, countsIn, saysPlanned}
+use Rattle.columns.specs.declared.Planned.{Planned}
+use Rattle.columns.specs.declared.Planned.the-variants.{Plan, Refused}
 
 abbrev pub Unchanged : Planned → (ss ss′ : List Share) → (ls ls′ : List Slice) → Type 0
 Unchanged (Plan jobs slices) ss ss′ ls ls′ = Unit {0}

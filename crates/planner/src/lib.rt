@@ -1,9 +1,8 @@
-// The planning call: shares, then slices, into tables that the caller lends. What it promises is in specs/Promise.antt, the plan in specs/Plan.antt.
+// The planning call: shares, then slices, into tables that the caller lends. What it promises is in specs/Promise.antt, the plan in crate columns,
+// specs/Plan.antt.
 //
-// One core serves every caller: `plan_columns`, over columns of numbers (crate model, specs/Columns.antt and specs/Packed.antt), which callers
-// with a text call as it is. `plan` is the call over lent records: the few functions over them only read or write rows, one by one.
-mod packing;
-
+// The core, `columns::plan_columns`, is over columns of numbers. `plan` is the call over lent records: the few functions over them only read or
+// write rows, one by one.
 ghost use mathlib.Core.Path.{_≡_};
 ghost use mathlib.Core.List.{_++_, map};
 ghost use Prim.Native.Nat.{_-_, _≤_};
@@ -16,9 +15,9 @@ ghost use Rattle.model.specs.ShareRow.{rowOf};
 ghost use Rattle.model.specs.Split.{share};
 ghost use Rattle.slices.specs.Moves.{movesOf};
 ghost use Rattle.planner.specs.PlanMoves.{noMoves, MovesPromised};
-ghost use Rattle.planner.specs.Plan.{tooShort};
 ghost use Rattle.planner.specs.ByValue.{fitOf, noRows, Filled};
-ghost use Rattle.planner.specs.Promise.{Columned, Promised};
+ghost use Rattle.planner.specs.Promise.{Promised};
+use columns::Planned;
 use model::Board;
 use model::FirstTicks;
 use model::JOBS_MOST;
@@ -30,13 +29,6 @@ use model::SecondTicks;
 use model::Share;
 use model::Slice;
 use slices::Moves;
-use split::Outcome;
-
-// The counts of a plan's shares and slices, or a refusal.
-pub enum Planned {
-    Plan(usize, usize),
-    Refused(Refusal),
-}
 
 // What was planned for lent tables, and how many rows of each are to be written: none where it is refused.
 struct Fitted {
@@ -59,62 +51,6 @@ struct Tables {
 pub struct PlannedMoves {
     pub planned: Planned,
     pub moves: [Moves; JOBS_MOST],
-}
-
-// Whether columns are too short for some set.
-fn are_too_short(first: usize, second: usize, slices: usize) -> bool
-    ensures { λ r. ⌜ r ≡ tooShort first second slices ⌝ }
-{
-    if first < JOBS_MOST {
-        return true;
-    }
-    if second < JOBS_MOST {
-        return true;
-    }
-    slices < SLICES_MOST
-}
-
-// The first `n` numbers of a column become these ticks, and the others stay.
-fn put_ticks(ticks: [u16; JOBS_MOST], n: usize, column: &mut [u16])
-    requires { ⌜ (n ≤ jobsMost) × (n ≤ length (now column)) ⌝ }
-    ensures { λ _. ⌜ now (column .exit) ≡ take n ticks ++ drop n (now (column .entry)) ⌝ }
-{
-    let mut i: usize = 0;
-    while i < n {
-        column[i] = ticks[i];
-        i += 1;
-    }
-}
-
-// The plan of the first `n` jobs of two columns of costs, into columns of its shares and its slices. More than 64 jobs can be asked for, and are
-// refused. Columns that are too short for some set are refused by 7, last of all.
-pub fn plan_columns(
-    board: Board,
-    first: &[u32; JOBS_MOST],
-    second: &[u32; JOBS_MOST],
-    n: usize,
-    shares1: &mut [u16],
-    shares2: &mut [u16],
-    slices: &mut [u64],
-) -> Planned
-    ensures { λ r. ⌜ Columned board n (jobsIn n (now (first .entry)) (now (second .entry))) (now (shares1 .entry)) (now (shares2 .entry)) (now (slices .entry)) r (now (shares1 .exit)) (now (shares2 .exit)) (now (slices .exit)) ⌝ }
-{
-    let shared = split::split(board, first, second, n);
-    let outcome = shared.outcome;
-    match outcome {
-        Outcome::Refused(refusal) => Planned::Refused(refusal),
-        Outcome::Shares(count) => {
-            if are_too_short(shares1.len(), shares2.len(), slices.len()) {
-                return Planned::Refused(Refusal::TooShort);
-            }
-            let ticks1 = shared.first;
-            let ticks2 = shared.second;
-            put_ticks(ticks1, count, shares1);
-            put_ticks(ticks2, count, shares2);
-            let rows = packing::table(board.window, shares1, shares2, count, slices);
-            Planned::Plan(count, rows)
-        }
-    }
 }
 
 // A refusal gives no rows.
@@ -164,7 +100,7 @@ fn plan_tables(
     let mut shares1 = [0u16; JOBS_MOST];
     let mut shares2 = [0u16; JOBS_MOST];
     let mut slices = [0u64; SLICES_MOST];
-    let planned = plan_columns(
+    let planned = columns::plan_columns(
         board,
         &first,
         &second,
@@ -277,7 +213,7 @@ fn put_slices(table: &mut [Slice], slices: [u64; SLICES_MOST], n: usize)
 }
 
 // The plan of any number of jobs, into lent tables: the call for those who keep jobs, shares and slices as records. Callers with a text go through
-// `plan_columns`, so no other source calls this one but the program `facts`, which runs it with tables that are too short, exact and longer.
+// `columns::plan_columns`, so no other source calls this one but the program `facts`, which runs it with tables that are too short, exact and longer.
 pub fn plan(board: Board, jobs: &[Job], shares: &mut [Share], slices: &mut [Slice]) -> Planned
     ensures { λ r. ⌜ Promised board (now (jobs .entry)) (now (shares .entry)) (now (slices .entry)) r (now (shares .exit)) (now (slices .exit)) ⌝ }
 {

@@ -1,4 +1,4 @@
--- The table of slices of given shares: docs/SPEC.md, "The slices". Its code is planner/src/packing.rt, which has `requires` and is private to that
+-- The table of slices of given shares: docs/SPEC.md, "The slices". Its code is columns/src/packing.rt, which has `requires` and is private to that
 -- crate: placing is not public yet.
 -- On each kind the shares stand one behind the other, as runs of positions: position p is tick p % W of core p / W on the first kind,
 -- and tick W − 1 − p % W on the second, which is packed backward. A run that passes the edge of a core is cut there.

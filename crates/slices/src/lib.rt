@@ -1,6 +1,6 @@
 // The moves of a job by the rows of a table of slices: docs/SPEC.md, "Moves"; the definition is specs/Moves.antt.
 // The table itself is defined here (specs/Table.antt) and proved to be a timetable (proofs/Timetabled.antt), but the code that makes it is
-// planner/src/packing.rt: it has `requires` and is private to that crate, so placing is not public yet.
+// columns/src/packing.rt: it has `requires` and is private to that crate, so placing is not public yet.
 // The table follows Hetero-Wrap over McNaughton's rule (docs/SOURCES.md). Ours takes jobs by number where the paper leaves their order open,
 // and mirrors no window.
 ghost use mathlib.Core.Path.{_≡_};

@@ -14,6 +14,7 @@
 --   isA           whether bytes are such a record, by the first of them and by how many they are
 --   fieldsIn      the numbers in fields of given bytes
 --   field         the number in a field of a record, the first field being field 0
+--   boardIn       the board of its record
 -- Assumes nothing.
 use mathlib.Core.Bool.{Bool, _&&_}
 use mathlib.Core.List.{List, [], _∷_, _++_}
@@ -21,6 +22,7 @@ use Prim.Native.Nat.{ℕ, _+_, _*_}
 use lib.Dec.{eqb}
 use lib.ListN.{length, take, drop, getD}
 use Rattle.rows.specs.Lists.{sumOf}
+use Rattle.model.specs.declared.Board.{Board}
 use Rattle.text.specs.Hex.{inBytes, numberIn}
 
 pub record Form : Type 0 where
@@ -73,3 +75,6 @@ fieldsIn (w ∷ ws) bs = numberIn (take w bs) ∷ fieldsIn ws (drop w bs)
 -- Asked of bytes that are such a record, and of a field that it has.
 abbrev pub field : Form → ℕ → List ℕ → ℕ
 field f i r = getD (fieldsIn (f .widths) (drop 1 r)) i 0
+
+abbrev pub boardIn : List ℕ → Board
+boardIn r = record { window = field boardForm 0 r; first = field boardForm 1 r; second = field boardForm 2 r }

@@ -30,9 +30,9 @@ use Rattle.model.proofs.Share as Sh
 use Rattle.model.proofs.Share.Laws as Sh′
 use Rattle.model.proofs.Slice as Sl
 use Rattle.model.proofs.Slice.Laws as Sl′
-use Rattle.planner.specs.declared.Planned.{Planned}
-use Rattle.planner.proofs.Planned as E
-use Rattle.planner.proofs.Planned.Laws as E′
+use Rattle.columns.specs.declared.Planned.{Planned}
+use Rattle.columns.proofs.Planned as E
+use Rattle.columns.proofs.Planned.Laws as E′
 use Rattle.planner.proofs.plan as g
 use Rattle.planner.proofs.plan.Symbol as g-def
 use Rattle.planner.proofs.plan.Symbol.{name as #g}

@@ -8,9 +8,9 @@ use lib.ListN.{length}
 use Rattle.model.specs.Limits.{jobsMost}
 use Rattle.model.specs.Refusal.{Answer, given, refused}
 use Rattle.model.specs.declared.Board.{Board}
-use Rattle.text.specs.Input.{Input, Head, headOf, saysReading, inColumns, Gives}
-use Rattle.text.specs.declared.Reading.{Reading}
-use Rattle.text.specs.declared.Reading.the-variants.{Set}
+use Rattle.reader.specs.Input.{Input, Head, headOf, saysReading, inColumns, Gives}
+use Rattle.reader.specs.declared.Reading.{Reading}
+use Rattle.reader.specs.declared.Reading.the-variants.{Set}
 use Rattle.facts.proofs.show_text.Statement.{statement}
 use Rattle.facts.proofs.show_text.Tie as tie
 

@@ -36,12 +36,12 @@ use Rattle.model.proofs.Kind as K
 use Rattle.model.proofs.Kind.Laws as K′
 use Rattle.model.proofs.Share as Sh
 use Rattle.model.proofs.Slice as Sl
+use Rattle.columns.proofs.Planned as E
+use Rattle.columns.proofs.Planned.Laws as E′
 use Rattle.planner.specs.Promise.{Promised}
 use Rattle.planner.specs.ByValue.{Filled}
 use Rattle.planner.specs.declared.Tables.{Tables as Filling}
 use Rattle.planner.proofs.Lent.{read, few-fits, lent}
-use Rattle.planner.proofs.Planned as E
-use Rattle.planner.proofs.Planned.Laws as E′
 use Rattle.planner.proofs.Tables as P
 use Rattle.planner.proofs.Tables.Laws as P′
 use Rattle.planner.proofs.costs_in as costs

@@ -10,7 +10,7 @@ use Rattle.rows.specs.Upto.{at}
 use Rattle.rows.proofs.Upto.{upto-fill}
 use Rattle.model.specs.Limits.{slicesMost}
 use Rattle.model.specs.Packed.{sliceIn, slicesIn}
-use Rattle.planner.proofs.ColumnFronts.{slices-take}
+use Rattle.columns.proofs.ColumnFronts.{slices-take}
 use Rattle.planner.proofs.rows_of.Statement.{statement}
 use Rattle.planner.proofs.rows_of.Tie as tie
 

@@ -2,7 +2,7 @@
 use mathlib.Core.Path.{sym, _∙_}
 use native.Mathlib.Omega.{arith}
 use borrow.Author.Needs.{needs}
-use Rattle.text.proofs.Cuts.{cut-spelled}
+use Rattle.reader.proofs.Cuts.{cut-spelled}
 use Rattle.kernel.proofs.Entries.{says-none, says-board, says-counts, says-share, says-slice, says-other}
 use Rattle.kernel.proofs.lines.form_says.Statement.{statement}
 use Rattle.kernel.proofs.lines.form_says.Tie as tie

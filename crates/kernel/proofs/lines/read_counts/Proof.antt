@@ -6,8 +6,8 @@ use borrow.Author.Needs.{needs}
 use lib.ListN.{drop, length-drop}
 use Rattle.model.specs.Refusal.{andThen}
 use Rattle.text.specs.Hex.{linesOf}
-use Rattle.text.specs.Cut.{lineLength}
-use Rattle.text.proofs.Cuts.{cut-fits}
+use Rattle.reader.specs.Cut.{lineLength}
+use Rattle.reader.proofs.Cuts.{cut-fits}
 use Rattle.kernel.specs.Handed.{Entry, Counts, asCounts, countsFrom}
 use Rattle.kernel.specs.Reading.{saysLine, tableFrom}
 use Rattle.kernel.proofs.Heads.{given-ends, no-counts, after-counts}

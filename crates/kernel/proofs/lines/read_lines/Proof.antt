@@ -8,8 +8,8 @@ use lib.ListN.{drop}
 use Rattle.model.specs.Refusal.{andThen}
 use Rattle.model.specs.declared.Board.{Board}
 use Rattle.text.specs.Hex.{linesOf}
-use Rattle.text.specs.Cut.{lineLength}
-use Rattle.text.proofs.Cuts.{cut-fits}
+use Rattle.reader.specs.Cut.{lineLength}
+use Rattle.reader.proofs.Cuts.{cut-fits}
 use Rattle.kernel.specs.Handed.{Entry, asBoard, countsFrom, handedOf}
 use Rattle.kernel.specs.Reading.{saysLine}
 use Rattle.kernel.proofs.Heads.{given-ends, too-long, empty, after-board}

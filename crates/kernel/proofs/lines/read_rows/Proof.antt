@@ -6,7 +6,7 @@ use Prim.Native.Nat.{_-_, _≤_, _<_}
 use native.Mathlib.Omega.{arith}
 use borrow.Author.Needs.{needs}
 use lib.ListN.{length, length-drop}
-use Rattle.text.proofs.Cuts.{cut-fits}
+use Rattle.reader.proofs.Cuts.{cut-fits}
 use Rattle.kernel.specs.Reading.{counts, rowsMost}
 use Rattle.kernel.proofs.LineByLine.{Turn, turn-first, turn-missing, turn-last, turn-refused, turn-nothing, turn-room, turn-row}
 use Rattle.kernel.proofs.Tables.{hands-refused, hands-rows}
