@@ -43,12 +43,18 @@ compile() {
     find_compilers && mkdir -p target/c && quietly $cc -std=c11 -O2 -Wall -Wextra -Werror "$@"
 }
 
+# static_library: writes target/staticlib/libclampfern.a, where it is not newer than every source already.
+static_library() {
+    local library=target/staticlib/libclampfern.a
+    [ -e $library ] && [ -z "$(find crates crates.txt -newer $library -print -quit)" ] || quietly rt staticlib clampfern
+}
+
 # c_program NAME [WORD..]: builds target/c/NAME from tests/c/NAME.c and the static library; the words go to the compiler's end.
 c_program() {
     local name=$1 static=
     shift
     [ "$machine" = x86_64 ] || static=-static
-    quietly rt staticlib clampfern && compile $static -Iinclude -o "target/c/$name" "tests/c/$name.c" target/staticlib/libclampfern.a "$@"
+    static_library && compile $static -Iinclude -o "target/c/$name" "tests/c/$name.c" target/staticlib/libclampfern.a "$@"
 }
 
 # c_preload NAME: builds target/c/NAME.so from tests/c/NAME.c, to be preloaded (tools/run). It takes the C library of the program that it is loaded
