@@ -56,7 +56,7 @@ pub fn text(seed: u64, index: u64) -> Vec<u8> {
             |rng| sets::few_jobs(rng).lines(),
             b"02000000000100000001\n",
         ),
-        _ => scrap(rng),
+        _ => scrap(rng, &SCRAPS),
     }
 }
 
@@ -126,37 +126,39 @@ fn long(rng: &mut Rng, some: impl FnOnce(&mut Rng) -> Lines, more: &[u8]) -> Vec
     bytes
 }
 
-/// A short text of little sense.
-fn scrap(rng: &mut Rng) -> Vec<u8> {
-    const FIXED: [&[u8]; 25] = [
-        b"",
-        b"\n",
-        b"\n\n",
-        b"\r\n",
-        b"0",
-        b"01",
-        b"02\n",
-        b"00\n",
-        b"01000a0101",
-        b"01000A0101\n",
-        b"01000a0101\n\n",
-        b"\n01000a0101\n",
-        b"01000a0101\r\n",
-        b"01000a0101 \n",
-        b" 01000a0101\n",
-        b"01000a010\n",
-        b"01000a01\n",
-        b"01000a010100\n",
-        b"01000a0101\n01000a0101\n",
-        b"02000000000600000009\n",
-        b"02000000000600000009\n01000a0101\n",
-        b"100000\n",
-        b"1f0600\n",
-        b"1f1000\n",
-        b"0x000a0101\n",
-    ];
+/// Short texts that are no set, or nearly one.
+const SCRAPS: [&[u8]; 25] = [
+    b"",
+    b"\n",
+    b"\n\n",
+    b"\r\n",
+    b"0",
+    b"01",
+    b"02\n",
+    b"00\n",
+    b"01000a0101",
+    b"01000A0101\n",
+    b"01000a0101\n\n",
+    b"\n01000a0101\n",
+    b"01000a0101\r\n",
+    b"01000a0101 \n",
+    b" 01000a0101\n",
+    b"01000a010\n",
+    b"01000a01\n",
+    b"01000a010100\n",
+    b"01000a0101\n01000a0101\n",
+    b"02000000000600000009\n",
+    b"02000000000600000009\n01000a0101\n",
+    b"100000\n",
+    b"1f0600\n",
+    b"1f1000\n",
+    b"0x000a0101\n",
+];
+
+/// A short text of little sense: one of the fixed ones, or digits or bytes at random.
+fn scrap(rng: &mut Rng, fixed: &[&[u8]]) -> Vec<u8> {
     match rng.below(4) {
-        0..=1 => rng.pick(&FIXED).to_vec(),
+        0..=1 => rng.pick(fixed).to_vec(),
         2 => {
             let length = rng.range(0, 40) as usize;
             rng.string(length, b"00112aAfF\n\n")

@@ -61,7 +61,7 @@ limits-are = refl
 pub slices-most : jobsMost + 2 * (coresMost + coresMost) ≡ slicesMost + 2
 slices-most = refl
 
--- ==== roomRefusal
+-- Each number of a refusal for room, and those beside them.
 pub room-numbers : map (λ (number : ℕ). roomRefusal {A = ℕ} (refused number 0)) (5 ∷ 6 ∷ 7 ∷ 13 ∷ 14 ∷ 15 ∷ 16 ∷ 17 ∷ [])
     ≡ false ∷ true ∷ false ∷ false ∷ true ∷ true ∷ true ∷ false ∷ []
 room-numbers = refl

@@ -4,7 +4,7 @@
 
 use super::plans::{self, Plan, Row};
 use super::rng::Rng;
-use super::{damage, finish, long, Lines};
+use super::{damage, finish, long, scrap, Lines};
 use crate::handler::{CoreTick, Query};
 
 /// The query of the given index in the stream of the given seed.
@@ -42,7 +42,7 @@ pub fn query(seed: u64, index: u64) -> Query {
             bytes
         }
         93..=95 => long(rng, |_| plan.lines(), b"1200010000000001\n"),
-        _ => scrap(rng),
+        _ => scrap(rng, &SCRAPS),
     };
     Query { lines, at }
 }
@@ -132,42 +132,29 @@ fn at_row(rng: &mut Rng, row: &Row) -> [u64; 3] {
     [tick, row.kind, row.core]
 }
 
-/// A short text of little sense.
-fn scrap(rng: &mut Rng) -> Vec<u8> {
-    const FIXED: [&[u8]; 23] = [
-        b"",
-        b"\n",
-        b"\n\n",
-        b"\r\n",
-        b"0",
-        b"01",
-        b"10\n",
-        b"01000a0101",
-        b"01000A0101\n",
-        b"01000a0101\n100000",
-        b"01000a0101\n100000\n",
-        b"01000a0101\n100000\n\n",
-        b"01000a0101\n\n100000\n",
-        b"01000a0101\r\n100000\r\n",
-        b"01000a0101 \n100000\n",
-        b"01000a0101\n1000\n",
-        b"01000a0101\n10ffff\n",
-        b"01000a0101\n1f0600\n",
-        b"01000a0101\n1f1000\n",
-        b"100000\n01000a0101\n",
-        b"110000000000\n",
-        b"12ff010000000001\n",
-        b"01000a0101\n12ff030000000001\n",
-    ];
-    match rng.below(4) {
-        0..=1 => rng.pick(&FIXED).to_vec(),
-        2 => {
-            let length = rng.range(0, 40) as usize;
-            rng.string(length, b"00112aAfF\n\n")
-        }
-        _ => {
-            let length = rng.range(0, 60) as usize;
-            (0..length).map(|_| rng.below(256) as u8).collect()
-        }
-    }
-}
+/// Short texts that are no plan's lines, or nearly such.
+const SCRAPS: [&[u8]; 23] = [
+    b"",
+    b"\n",
+    b"\n\n",
+    b"\r\n",
+    b"0",
+    b"01",
+    b"10\n",
+    b"01000a0101",
+    b"01000A0101\n",
+    b"01000a0101\n100000",
+    b"01000a0101\n100000\n",
+    b"01000a0101\n100000\n\n",
+    b"01000a0101\n\n100000\n",
+    b"01000a0101\r\n100000\r\n",
+    b"01000a0101 \n100000\n",
+    b"01000a0101\n1000\n",
+    b"01000a0101\n10ffff\n",
+    b"01000a0101\n1f0600\n",
+    b"01000a0101\n1f1000\n",
+    b"100000\n01000a0101\n",
+    b"110000000000\n",
+    b"12ff010000000001\n",
+    b"01000a0101\n12ff030000000001\n",
+];
