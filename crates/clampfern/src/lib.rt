@@ -1,4 +1,6 @@
 // The planner from text to text, and its C entry: the library that users link (include/clampfern.h). entries.rt has those of the tick handler.
+#![tactic(auto)]
+
 ghost use Rattle.std.specs.Prelude.{◌<◌};
 ghost use Rattle.model.specs.Columns.{jobs_in};
 ghost use Rattle.model.specs.Limits.{jobs_most, slices_most};
@@ -17,7 +19,7 @@ use reader::Reading;
 use text::{ANSWER_MOST, Written};
 
 // The answer to a text by value: its lines, and how many bytes they have. All other bytes are zero.
-#[derive(Drop)]
+#[derive(Clone, Copy)]
 pub struct AnswerLines {
     pub bytes: [u8; ANSWER_MOST],
     pub size: usize,

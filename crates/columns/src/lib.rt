@@ -2,6 +2,8 @@
 //
 // One core serves every caller: `plan_columns`, over the columns of crate model (specs/Columns.antt and specs/Packed.antt). Callers with a text call
 // it as it is, and crate planner calls it for those who keep records.
+#![tactic(auto)]
+
 mod packing;
 
 ghost use Rattle.std.specs.Prelude.{◌≡◌, ◌++◌, ◌≤◌, length, take, drop};
@@ -14,7 +16,7 @@ use model::{Board, JOBS_MOST, Refusal, SLICES_MOST};
 use split::Outcome;
 
 // The counts of a plan's shares and slices, or a refusal.
-#[derive(Drop)]
+#[derive(Clone, Copy)]
 pub enum Planned {
     Plan(usize, usize),
     Refused(Refusal),

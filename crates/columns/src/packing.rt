@@ -18,7 +18,7 @@ ghost use Rattle.columns.specs.Packing.{class_of, share_on, shares_on, filling_o
 use model::Kind;
 
 // The jobs that one pass over a kind places.
-#[derive(Drop)]
+#[derive(Clone, Copy)]
 enum Class {
     Even,
     Other,
@@ -26,7 +26,7 @@ enum Class {
 }
 
 // Where the next slice goes: its row, its core, and its place there.
-#[derive(Drop)]
+#[derive(Clone, Copy)]
 struct Spot {
     count: usize,
     core: u32,

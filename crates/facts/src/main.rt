@@ -3,6 +3,8 @@
 // It plans by the lent call, into tables that hold marks, and looks at every row after the call: with tables longer than the plan, exactly as long,
 // and each in turn a row too short. What it finds wrong it says in a last line. The promises of `columns` and `planner` say that it never does;
 // here they are run.
+#![tactic(auto)]
+
 ghost use Rattle.std.specs.Prelude.{◌≤◌};
 ghost use Rattle.model.specs.Limits.{jobs_most, slices_most};
 
@@ -17,7 +19,7 @@ use split::Balanced;
 use streams::{Got, INPUT_MOST};
 
 // What was planned into columns, and the rows that these then hold.
-#[derive(Drop)]
+#[derive(Clone, Copy)]
 struct Columns {
     planned: Planned,
     shares: [Share; JOBS_MOST],
@@ -25,7 +27,7 @@ struct Columns {
 }
 
 // What was planned into lent tables, and the tables after it.
-#[derive(Drop)]
+#[derive(Clone, Copy)]
 struct Lent {
     planned: Planned,
     shares: [Share; JOBS_MOST],

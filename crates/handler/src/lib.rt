@@ -1,6 +1,8 @@
 // The tick handler: whether a table of slices can be run, which job runs on a core at a tick, and the position in the window, which goes round.
 // docs/SPEC.md, "The tick handler". A table is a column of numbers, a slice each, as `columns::plan_columns` writes it.
 // It calls nothing of the planner. proofs/Window.antt shows what the planner's promises make of it: over a window each job gets its share.
+#![tactic(auto)]
+
 ghost use Rattle.std.specs.Prelude.{◌≡◌, length};
 ghost use Rattle.rows.specs.Lists.{lowest};
 ghost use Rattle.model.specs.Board.{same_kind};
@@ -15,7 +17,7 @@ use legal::Checked;
 use model::{Board, Kind, Refusal, Slice, WINDOW_MOST};
 
 // The job that runs, none, or a refusal.
-#[derive(Drop)]
+#[derive(Clone, Copy)]
 pub enum Named {
     Job(u8),
     Idle,
@@ -23,20 +25,20 @@ pub enum Named {
 }
 
 // A tick of the window.
-#[derive(Drop)]
+#[derive(Clone, Copy)]
 pub struct Position {
     pub tick: u32,
 }
 
 // The position was moved on, or the refusal for which it stays.
-#[derive(Drop)]
+#[derive(Clone, Copy)]
 pub enum Moved {
     On,
     Refused(Refusal),
 }
 
 // A position by value, and what moving it answered.
-#[derive(Drop)]
+#[derive(Clone, Copy)]
 pub struct Step {
     pub tick: u32,
     pub moved: Moved,

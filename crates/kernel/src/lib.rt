@@ -1,5 +1,7 @@
 // What the board's kernel calls: the tick handler over the lines of a plan, with the board's line before them. docs/SPEC.md, "The tick handler".
 // The lines are read here (lines.rt); whether their table can be run and what runs is the handler's, and its packed form is crate packed's.
+#![tactic(auto)]
+
 ghost use Rattle.std.specs.Prelude.{◌≡◌};
 ghost use Rattle.handler.specs.Running.{says_named};
 ghost use Rattle.kernel.specs.Handed.{handed_of, tick_of, PacksFor};

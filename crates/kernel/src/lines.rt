@@ -11,7 +11,7 @@ use model::{Board, Kind, Refusal, Slice, TEXT_MOST};
 use reader::Cut;
 
 // What a line says by its form.
-#[derive(Drop)]
+#[derive(Clone, Copy)]
 enum Said {
     OfBoard(Board),
     OfCounts(u8, u8),
@@ -20,14 +20,14 @@ enum Said {
 }
 
 // That, or the line's refusal.
-#[derive(Drop)]
+#[derive(Clone, Copy)]
 enum Line {
     Says(Said),
     Refused(Refusal),
 }
 
 // What a line after the counts' gives the table: a row, nothing, or its refusal.
-#[derive(Drop)]
+#[derive(Clone, Copy)]
 enum Row {
     Holds(Slice),
     Nothing,
@@ -35,7 +35,7 @@ enum Row {
 }
 
 // A board with as many rows as are counted, or a refusal.
-#[derive(Drop)]
+#[derive(Clone, Copy)]
 pub(crate) enum Table {
     Rows(Board, usize),
     Refused(Refusal),

@@ -1,5 +1,7 @@
 // Which sets of jobs are legal: checks 1 to 5 of docs/SPEC.md, "Which sets are legal". Each check looks at all jobs before the next begins, and
 // the first that is not passed gives the refusal, by number and place. The definition is specs/Legal.antt; proofs/Lib.antt is the guide to its laws.
+#![tactic(auto)]
+
 ghost use Rattle.std.specs.Prelude.{◌≡◌, ◌≤◌};
 ghost use Rattle.rows.specs.Lists.{lowest};
 ghost use Rattle.model.specs.Columns.{job_at, jobs_in};
@@ -11,14 +13,14 @@ ghost use Rattle.legal.specs.Legal.{outside, on_board, bad_cost, too_long, legal
 use model::{Board, CORES_MOST, COST_MOST, JOBS_MOST, Refusal, WINDOW_MOST};
 
 // A set, or a board by itself, that passes its checks, or the refusal of the first that it fails.
-#[derive(Drop)]
+#[derive(Clone, Copy)]
 pub enum Checked {
     Legal,
     Refused(Refusal),
 }
 
 // The two checks that go over the jobs.
-#[derive(Drop)]
+#[derive(Clone, Copy)]
 enum Test {
     Cost,
     Long,

@@ -1,6 +1,8 @@
 // A checked table in bytes that is cheap to ask at each tick: docs/SPEC.md, "The tick handler". The bytes are the records that the text's lines
 // spell, the board's and then one for each row. `pack_table` checks a table and writes them, once; `packed_tick` looks over them once a tick and
 // checks their form alone. proofs/Same.antt shows that what was packed is asked as the table is.
+#![tactic(auto)]
+
 ghost use Rattle.std.specs.Prelude.{true, ◌≡◌, ◌+◌, ◌*◌, ◌≤◌, ◌<◌, ltb, length, take, drop};
 ghost use Rattle.std.proofs.lemmas.List.Edits.{sets};
 ghost use Rattle.model.specs.Packed.{slice_in, slices_in};

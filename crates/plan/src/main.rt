@@ -1,6 +1,8 @@
 // The program `plan`: a set's text on standard input, its plan's lines or one refusal's line on standard output, and nothing else.
 // It is thin: what it answers is `clampfern::answer`, which is proved for every text. Where the input cannot be read, standard output stays
 // empty, which no answer is; that, and an answer that cannot be written, is a line on standard error, since no program has an exit status here.
+#![tactic(auto)]
+
 use streams::{Got, INPUT_MOST};
 
 // Writes the answer to a text.

@@ -3,6 +3,8 @@
 //
 // The core, `columns::plan_columns`, is over columns of numbers. `plan` is the call over lent records: the few functions over them only read or
 // write rows, one by one.
+#![tactic(auto)]
+
 ghost use Rattle.std.specs.Prelude.{◌≡◌, ◌++◌, map, ◌-◌, ◌≤◌, length, take, drop, replicate};
 ghost use Rattle.rows.specs.Upto.{upto};
 ghost use Rattle.model.specs.Columns.{cost_on, jobs_in, shares_in};
@@ -22,7 +24,7 @@ use model::{
 use slices::Moves;
 
 // What was planned for lent tables, and how many rows of each are to be written: none where it is refused.
-#[derive(Drop)]
+#[derive(Clone, Copy)]
 struct Fitted {
     planned: Planned,
     shared: usize,
@@ -30,7 +32,7 @@ struct Fitted {
 }
 
 // The same with the columns of the shares and of the slices.
-#[derive(Drop)]
+#[derive(Clone, Copy)]
 struct Tables {
     planned: Planned,
     shared: usize,
@@ -41,7 +43,7 @@ struct Tables {
 }
 
 // What was planned, with the moves of each job. All other rows are zero.
-#[derive(Drop)]
+#[derive(Clone, Copy)]
 pub struct PlannedMoves {
     pub planned: Planned,
     pub moves: [Moves; JOBS_MOST],

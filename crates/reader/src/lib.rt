@@ -1,6 +1,8 @@
 // The reader of the text, whose records stand in crate text: bytes to a board and its jobs, or the refusal of the first bad line. docs/SPEC.md, "The
 // text", and refusals 8, 9, 10 and 3. The costs go into columns that the caller lends, once the whole text is known to be a set, so that a refusal
 // changes none. `cut_at` gives the numbers of any line, for a crate that reads other records: so hexadecimal is read in one place.
+#![tactic(auto)]
+
 ghost use Rattle.std.specs.Prelude.{◌++◌, ◌≡◌, ◌+◌, ◌≤◌, length, drop};
 ghost use Rattle.rows.specs.Upto.{upto, at};
 ghost use Rattle.model.specs.Limits.{jobs_most};
@@ -14,14 +16,14 @@ use model::{Board, FirstTicks, JOBS_MOST, Job, Kind, Refusal, SecondTicks, TEXT_
 use text::{BOARD, BOARD_SIZE, COST_DIGITS, HEAD_DIGITS, JOB, JOB_SIZE};
 
 // What a line of an input says. It is public since the definitions of crate clampfern cite it; no other code does.
-#[derive(Drop)]
+#[derive(Clone, Copy)]
 pub enum Entry {
     OfBoard(Board),
     OfJob(Job),
 }
 
 // A board with as many jobs as are counted, or a refusal.
-#[derive(Drop)]
+#[derive(Clone, Copy)]
 pub enum Reading {
     Set(Board, usize),
     Refused(Refusal),
@@ -29,7 +31,7 @@ pub enum Reading {
 
 // A line by its numbers: how many bytes it spells, and 0 where it spells none; the numbers of its digits, cut as a job's are (2, 4 and 4 bytes); and
 // where its digits end.
-#[derive(Drop)]
+#[derive(Clone, Copy)]
 pub struct Cut {
     pub size: usize,
     pub head: u32,
@@ -39,7 +41,7 @@ pub struct Cut {
 }
 
 // A run of digits: the number that it spells, and where it ends.
-#[derive(Drop)]
+#[derive(Clone, Copy)]
 struct Run {
     value: u32,
     end: usize,
@@ -47,7 +49,7 @@ struct Run {
 
 // The numbers that the digits of a line spell, cut as a job's are: the first byte with the allowed kinds, and each cost. And where its digits end.
 // A board, which is shorter, is put together from them again: so each digit is read once, whatever the line turns out to be.
-#[derive(Drop)]
+#[derive(Clone, Copy)]
 struct Numbers {
     head: u32,
     a: u32,
@@ -56,14 +58,14 @@ struct Numbers {
 }
 
 // What a line says, or its refusal.
-#[derive(Drop)]
+#[derive(Clone, Copy)]
 enum Line {
     Says(Entry),
     Refused(Refusal),
 }
 
 // What the job of a line after the first costs on each kind, as columns have it, or the line's refusal.
-#[derive(Drop)]
+#[derive(Clone, Copy)]
 enum Row {
     Holds(u32, u32),
     Refused(Refusal),

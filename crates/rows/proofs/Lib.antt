@@ -18,7 +18,5 @@ pub mod Numbered
 pub mod Walk
 -- A field that is an array of a declared type, at its elements: for code that lends tables of records.
 pub mod Fields
--- Tables of records that are lent: a loop's count, arrays in locals, loans, and the walk by hand of a loop over one.
-pub mod Lent
 -- What two different constructors prove that are said to be one: anything.
 pub mod Never

@@ -3,6 +3,8 @@
 // columns/src/packing.rt: it has `requires` and is private to that crate, so placing is not public yet.
 // The table follows Hetero-Wrap over McNaughton's rule (docs/SOURCES.md). Ours takes jobs by number where the paper leaves their order open,
 // and mirrors no window.
+#![tactic(auto)]
+
 ghost use Rattle.std.specs.Prelude.{◌≡◌, cond, ◌&&◌, ◌≤◌, eqb, take};
 ghost use Rattle.model.specs.Board.{same_kind};
 ghost use Rattle.model.specs.Limits.{slices_most};
@@ -11,14 +13,14 @@ ghost use Rattle.slices.specs.Moves.{is_before, later_if, before_of, is_outer, i
 use model::{Kind, SLICES_MOST, Slice};
 
 // The slice of the same job that runs before a slice, where one is found.
-#[derive(Drop)]
+#[derive(Clone, Copy)]
 enum Before {
     Nothing,
     Row(Slice),
 }
 
 // How often a job moves in each window, from its last slice to its first too: from one kind to the other, and between cores of one kind.
-#[derive(Drop)]
+#[derive(Clone, Copy)]
 pub struct Moves {
     pub outer: u32,
     pub inner: u32,

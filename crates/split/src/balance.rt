@@ -7,14 +7,14 @@ use legal::Checked;
 use model::{Board, JOBS_MOST, Job, Kind, Refusal};
 
 // What each kind has left while all jobs are at home, signed: a kind that is over is below zero.
-#[derive(Drop)]
+#[derive(Clone, Copy)]
 pub struct Balance {
     pub first: i64,
     pub second: i64,
 }
 
 // The starting balance, or a refusal.
-#[derive(Drop)]
+#[derive(Clone, Copy)]
 pub enum Balanced {
     Given(Balance),
     Refused(Refusal),

@@ -9,6 +9,8 @@
 //
 // Read on: home.rt, where the jobs start; steps.rt, how they are moved from a kind that is over; balance.rt, the starting balance. The rules are
 // in docs/SPEC.md, what is promised is `Promised` of specs/Promise.antt.
+#![tactic(auto)]
+
 mod balance;
 mod home;
 mod steps;
@@ -31,14 +33,14 @@ use model::{Board, JOBS_MOST, Kind, Refusal};
 use steps::relieve;
 
 // Shares for as many jobs as are counted, or a refusal.
-#[derive(Drop)]
+#[derive(Clone, Copy)]
 pub enum Outcome {
     Shares(usize),
     Refused(Refusal),
 }
 
 // The outcome, with the shares in the first rows of two columns: the ticks on each kind. All other rows are zero.
-#[derive(Drop)]
+#[derive(Clone, Copy)]
 pub struct Shared {
     pub outcome: Outcome,
     pub first: [u16; JOBS_MOST],
@@ -46,21 +48,21 @@ pub struct Shared {
 }
 
 // How the split of a legal set ends: with a share for each job, or with a refusal.
-#[derive(Drop)]
+#[derive(Clone, Copy)]
 enum Ended {
     Split,
     Refused(Refusal),
 }
 
 // The ticks of all jobs on the kind that is looked from, and on the other.
-#[derive(Drop)]
+#[derive(Clone, Copy)]
 struct Sums {
     here: u64,
     there: u64,
 }
 
 // Where a job ends: the ticks that it keeps on the kind that is looked from, and those that it has on the other.
-#[derive(Drop)]
+#[derive(Clone, Copy)]
 struct Ends {
     keep: u32,
     give: u32,

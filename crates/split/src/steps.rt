@@ -14,7 +14,7 @@ use crate::{Ended, Ends, Sums};
 use model::{JOBS_MOST, Kind, Refusal};
 
 // The row found so far, with its costs: near is 0 and the number is the count of the rows where none is found.
-#[derive(Drop)]
+#[derive(Clone, Copy)]
 struct Best {
     at: usize,
     near: u64,

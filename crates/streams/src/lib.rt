@@ -1,6 +1,8 @@
 // The standard input and output of our programs, over the C library's read and write. A read that failed is told from the end of the input, and
 // a write that moved a part or failed from one that moved all. No contract can say which bytes were read or written. What is proved: each function
 // is safe and ends, a count lies within its buffer, and no answer below 0 says the end (`call_of`). What the loops make of that tests/plan.sh tries.
+#![tactic(auto)]
+
 ghost use Rattle.std.specs.Prelude.{◌≡◌, nat_abs};
 ghost use Rattle.streams.specs.Call.{Said};
 ghost use Rattle.streams.specs.Input.{Held};
@@ -15,14 +17,14 @@ pub const INPUT_MOST: usize = TEXT_MOST + 1;
 const INTERRUPTIONS_MOST: usize = 1000;
 
 // What was read: so many bytes, up to the end of the input or of the buffer; or a failure, after which what came may be a part.
-#[derive(Drop)]
+#[derive(Clone, Copy)]
 pub enum Got {
     Whole(usize),
     Failed,
 }
 
 // What a call of read or write said.
-#[derive(Drop)]
+#[derive(Clone, Copy)]
 enum Call {
     Moved(usize),
     Ended,

@@ -1,5 +1,7 @@
 // The text: lines of hexadecimal, one record a line (docs/SPEC.md, "The text"). What the records are stands in records.rt, and writer.rt writes a
 // plan's lines and a refusal's line into a text that the caller lends. Crate reader reads an input.
+#![tactic(auto)]
+
 mod records;
 mod writer;
 
@@ -11,7 +13,7 @@ pub use records::{
 pub use writer::{write_plan, write_refusal};
 
 // How many bytes of a lent text were written, or the refusal of a text that is too short.
-#[derive(Drop)]
+#[derive(Clone, Copy)]
 pub enum Written {
     Bytes(usize),
     Refused(Refusal),

@@ -4,6 +4,8 @@
 // It asks the tick handler by the lines alone, as the board's kernel does, for every core at every position. The position is moved on by the call that
 // takes it lent, which has to do what the call by value does; where it does not, a last line says so. The promises of `handler` say that it always
 // does; here they are run.
+#![tactic(auto)]
+
 use handler::{Moved, Named, Position, Step};
 use model::{CORES_MOST, Refusal, WINDOW_MOST};
 use streams::{Got, INPUT_MOST};
@@ -14,7 +16,7 @@ const IDLE: usize = 256;
 const COUNTS: usize = IDLE + 1;
 
 // What was counted of each kind in a window, where the position then is, and whether both calls always moved it alike.
-#[derive(Drop)]
+#[derive(Clone, Copy)]
 struct Walked {
     first: [u32; COUNTS],
     second: [u32; COUNTS],

@@ -1,6 +1,8 @@
 // Runs the split on the worked sets of the rules (split/proofs/Examples.antt has their answers), among them the set of the paper's Table I
 // (docs/SOURCES.md), and on sets that every check refuses. A line each: the starting balance of the two kinds, then the shares, or the refusal's
 // number and place.
+#![tactic(auto)]
+
 use libc::STDOUT_FILENO;
 use model::{Board, FirstTicks, JOBS_MOST, Job, Kind, Refusal, SecondTicks};
 use split::{Balanced, Outcome};

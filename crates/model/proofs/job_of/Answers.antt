@@ -1,0 +1,19 @@
+use Rattle.std.proofs.Common.{rules, ◌≡◌, cond, eqb, take, ℕ, ◌+◌, ◌-◌, ◌*◌, ◌<◌, ◌≤◌, length, ◌/◌, ◌%◌, Bool, true, false, nat_lt, List, [], ◌∷◌, ◌++◌, slice_index_or, slice_set, bit_and, bit_or, Fits, w8, w32, w64, Bor, MutBor}
+use Rattle.model.specs.Board.{cores_of, room_of}
+use Rattle.model.specs.Columns.{job_at, cost_on}
+use Rattle.model.specs.Columns.{costs as costs_of}
+use Rattle.model.specs.Packed.{kind_number, kind_of, slice_in}
+use Rattle.model.specs.Refusal.{number_of, place_of}
+use Rattle.model.proofs.job_of.Goals as goal
+
+-- src/lib.rt:209:9
+pub returns-then-second-eq0 : goal.returns-then-second-eq0
+returns-then-second-eq0 c = ?
+
+-- src/lib.rt:212:9
+pub returns-then-first-eq0 : goal.returns-then-first-eq0
+returns-then-first-eq0 c = ?
+
+-- src/lib.rt:205:1
+pub returns : goal.returns
+returns c = ?
