@@ -9,6 +9,7 @@ use Rattle.columns.specs.Plan.{Counts, says_planned}
 use Rattle.columns.specs.declared.Planned.{Planned}
 use Rattle.columns.specs.declared.Planned.TheVariants.{Plan, Refused}
 use Rattle.columns.proofs.plan_columns
+use Rattle.columns.specs.contracts.plan_columns as plan_columns_contract
 
 abbrev planned_of : Answer Counts → Planned
 planned_of = answer_of (λ c. Plan c.jobs c.slices) Refused
@@ -20,7 +21,7 @@ planned-back (Refused r) = ap Refused (refusal-back r)
 pub planned-once : (counts : Answer Counts) → Once (λ (r : Planned). says_planned r ≡ counts)
 planned-once = said-once says_planned planned_of planned-back
 
-pub columns-once : Determines plan_columns.ended plan_columns.Reads.Learnt
+pub columns-once : Determines plan_columns_contract.ended plan_columns.Reads.Learnt
 columns-once κs args r s p q =
     let answer : r.0 ≡ s.0 = planned-once _ r.0 s.0 p.says q.says in
     let first : r.1.1.1.1.1.0 ≡ s.1.1.1.1.1.0 = cc in

@@ -14,9 +14,11 @@ use Rattle.handler.specs.Running.{says_named}
 use Rattle.handler.proofs.Determined.{named_of, named_back}
 use Rattle.kernel.specs.Handed.{Handed, handed_of, PacksFor}
 use Rattle.kernel.proofs.tick
+use Rattle.kernel.specs.contracts.tick as tick_contract
 use Rattle.kernel.proofs.pack
+use Rattle.kernel.specs.contracts.pack as pack_contract
 
-pub tick-once : Determines tick.ended tick.Reads.Learnt
+pub tick-once : Determines tick_contract.ended tick.Reads.Learnt
 tick-once κs args r s p q i = (said-once says_named named_of named_back _ r.0 s.0 p q i, r.1)
 
 -- What the lines are decides whether bytes may change.
@@ -28,7 +30,7 @@ packs-once (refused number place) before r s p q =
     let written : r.0 ≡ s.0 = said-once says_written written_of written_back _ r.0 s.0 p.0 q.0 in
     λ i. (written i, (p.1 ∙ sym q.1) i)
 
-pub pack-once : Determines pack.ended pack.Reads.Learnt
+pub pack-once : Determines pack_contract.ended pack.Reads.Learnt
 pack-once κs args r s p q =
     let same = packs-once (handed_of args.0.now) args.1.0.now (r.0, r.1.1.0) (s.0, s.1.1.0) p q in
     λ i. ((same i).0, (tt, ((same i).1, tt)))

@@ -31,7 +31,9 @@ use Rattle.split.specs.declared.Outcome.{Outcome}
 use Rattle.split.specs.declared.Outcome.TheVariants.{Shares, Refused}
 use Rattle.split.specs.declared.Shared.{Shared}
 use Rattle.split.proofs.split
+use Rattle.split.specs.contracts.split as split_contract
 use Rattle.split.proofs.balance.starting_balance
+use Rattle.split.specs.contracts.balance.starting_balance as starting_balance_contract
 
 -- As many shares as are given, in columns with zeros behind them.
 abbrev shared_of : Answer (List Ticks) → Shared
@@ -65,7 +67,7 @@ shared-once board n js =
     (λ r p. let a = p.2.answers in sym (shared_back r.outcome r.first r.second p.0 p.1 a.few a.rest1 a.rest2) ∙ ap shared_of a.says)
 
 -- Beside the contract a caller is told what the result's type says: here, that each column has its rows.
-pub split-once : Determines split.ended (λ κs args r last. (split.Kinds.r).is.Ok κs r × split.Reads.Learnt κs args r last)
+pub split-once : Determines split_contract.ended (λ κs args r last. (split.Kinds.r).is.Ok κs r × split.Reads.Learnt κs args r last)
 split-once κs args r s p q i =
     (shared-once _ _ _ r.0 s.0 (search (rules, p.0), search (rules, p.0), p.1) (search (rules, q.0), search (rules, q.0), q.1) i, r.1)
 
@@ -76,5 +78,5 @@ balanced-back : (r : Balanced) → balanced_of (says_balanced r) ≡ r
 balanced-back (Given b) = refl
 balanced-back (NoBalance r) = ap NoBalance (refusal-back r)
 
-pub starting-balance-once : Determines starting_balance.ended starting_balance.Reads.Learnt
+pub starting-balance-once : Determines starting_balance_contract.ended starting_balance.Reads.Learnt
 starting-balance-once κs args r s p q i = (said-once says_balanced balanced_of balanced-back _ r.0 s.0 p q i, r.1)

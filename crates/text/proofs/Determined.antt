@@ -12,7 +12,9 @@ use Rattle.text.specs.Output.{says_written, Writes}
 use Rattle.text.specs.declared.Written.{Written}
 use Rattle.text.specs.declared.Written.TheVariants.{Bytes, Refused}
 use Rattle.text.proofs.writer.write_plan
+use Rattle.text.specs.contracts.writer.write_plan as write_plan_contract
 use Rattle.text.proofs.writer.write_refusal
+use Rattle.text.specs.contracts.writer.write_refusal as write_refusal_contract
 
 abbrev pub written_of : Answer ℕ → Written
 written_of = answer_of Bytes Refused
@@ -28,12 +30,12 @@ writes-once short before lines r s p q =
     let text : r.1 ≡ s.1 = cc in
     λ i. (answer i, text i)
 
-pub write-plan-once : Determines write_plan.ended write_plan.Reads.Learnt
+pub write-plan-once : Determines write_plan_contract.ended write_plan.Reads.Learnt
 write-plan-once κs args r s p q =
     let same = writes-once _ _ _ (r.0, r.1.1.1.1.1.1.0) (s.0, s.1.1.1.1.1.1.0) p q in
     λ i. ((same i).0, (tt, (tt, (tt, (tt, (tt, ((same i).1, tt)))))))
 
-pub write-refusal-once : Determines write_refusal.ended write_refusal.Reads.Learnt
+pub write-refusal-once : Determines write_refusal_contract.ended write_refusal.Reads.Learnt
 write-refusal-once κs args r s p q =
     let same = writes-once _ _ _ (r.0, r.1.1.1.0) (s.0, s.1.1.1.0) p q in
     λ i. ((same i).0, (tt, (tt, ((same i).1, tt))))

@@ -1,0 +1,11 @@
+-- `streams::write_to` meets its contract. The measure is the bytes that are left with the interruptions that it still bears: a call that moved
+-- bytes leaves fewer of the first (`moved`), and one that was interrupted fewer of the second (`spared`). Assumes nothing.
+use Prim.Native.Nat.{◌+◌, ◌-◌, ◌≤◌}
+use lib.ListN.{length}
+use Rattle.streams.proofs.write_to.Given as goal
+
+abbrev pub invariant-loop-done : goal.invariant-loop-done
+invariant-loop-done l = l.done ≤ length l.bytes
+
+abbrev pub decreases-loop-done : goal.decreases-loop-done
+decreases-loop-done l = length l.bytes - l.done + l.spare
