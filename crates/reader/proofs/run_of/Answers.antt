@@ -1,0 +1,82 @@
+-- `reader::run_of` meets its contract. The loop's invariant: the number so far, with the digits that are left of those asked for, spells what
+-- all of them spell and ends where they do, and it is below 16 to the power of the digits that were read. Assumes nothing.
+use mathlib.Core.List.{List, [], ◌∷◌}
+use mathlib.Core.Path.{◌≡◌, sym, ap, ◌∙◌}
+use Prim.Native.Nat.{ℕ, zero, suc, ◌+◌, ◌-◌, ◌*◌, ◌^◌, ◌≤◌, ◌<◌}
+use native.Mathlib.Nat.{pow-succ', pow-le-pow_right, lt_of_lt_of_le}
+use native.Mathlib.Omega.{arith}
+use borrow.Author.Rules.{rules}
+use lib.ListN.{length, take, drop}
+use lib.Seq.{take-nil}
+use Rattle.reader.specs.Cut.{digits_in, hex_from}
+use Rattle.reader.specs.Reader.{Spells}
+use Rattle.reader.proofs.Digits.{digits-out, digits-none, digits-one}
+use Rattle.reader.proofs.run_of.Invariants.{Running}
+use Rattle.reader.proofs.run_of.Goals as goal
+
+module _ {ds : List ℕ} {from most : ℕ} {es : List ℕ} {value left at : ℕ} (r : Running ds from most es value left at) where
+  -- No digit more, or none asked for.
+  over : take left es ≡ [] → Spells ds from most (record { value = value; end = at })
+  unfolding hex_from
+  over none = record { value = rw none at r.spells; end = omega (arith, ap length none, r.ends) }
+
+  fits : (x : ℕ) → most ≤ 8 → 0 < left → x ≤ 15 → 16 * value + x < 16 ^ (most - (left - 1))
+  fits x most-is some small =
+      let e : most - (left - 1) ≡ suc (most - left) = omega (arith, r.few) in
+      rw (e, pow-succ' 16 (most - left)) (omega (arith, r.small))
+
+  fits_word : (x : ℕ) → most ≤ 8 → 0 < left → x ≤ 15 → 16 * value + x < 2 ^ 32
+  fits_word x most-is some small =
+      let e : most - (left - 1) ≤ 8 = omega arith in
+      lt_of_lt_of_le (fits x most-is some small) (pow-le-pow_right {n = 16} (omega arith) e)
+
+  -- One digit more.
+  more : (x : ℕ) (rest : List ℕ) → es ≡ x ∷ rest → most ≤ 8 → 0 < left → x ≤ 15 → Running ds from most rest (16 * value + x) (left - 1) (at + 1)
+  unfolding hex_from
+  more x rest e most-is some small =
+      let t : take left es ≡ x ∷ take (left - 1) rest = rw e (front left some) in
+      record {
+        few = omega (arith, r.few);
+        small = fits x most-is some small;
+        spells = rw t at r.spells;
+        ends = omega (arith, ap length t, r.ends);
+      }
+    where
+      front : (n : ℕ) → 0 < n → take n (x ∷ rest) ≡ x ∷ take (n - 1) rest
+      front zero h = absurd (omega arith)
+      front (suc n) h =
+          let e : suc n - 1 ≡ n = omega arith in
+          rw e
+
+-- the digit here
+digit : (c : goal.Else2 invariant-loop decreases-loop)
+    → (c.nibble-digit.result ≤ 15)
+    × (digits_in (drop c.loop-at.at c.args.text.now)
+    ≡ c.nibble-digit.result
+    ∷ digits_in (drop (c.loop-at.at + 1) c.args.text.now))
+digit c = digits-one _ _ c.loop-at-test.true _ c.nibble-digit.ensures c.if-digit-eq16.false
+
+pub returns-then-left-eq0 : goal.returns-then-left-eq0
+returns-then-left-eq0 c = over c.loop-at.invariant (rw c.if-left-eq0.true)
+
+pub returns-then-digit-eq16 : goal.returns-then-digit-eq16
+returns-then-digit-eq16 c =
+    let t = c.before.before.before.before in
+    over t.loop-at.invariant (rw (digits-none _ _ t.loop-at-test.true (sym c.nibble-digit.ensures ∙ c.if-digit-eq16.true), take-nil))
+
+pub loop-at-preserved : goal.loop-at-preserved
+loop-at-preserved c =
+    let t = c.before.before.before.before in
+    more t.loop-at.invariant _ _ (digit c).1 t.requires (search rules) (digit c).0
+
+pub returns : goal.returns
+returns c = over c.loop-at.invariant (rw (digits-out _ _ c.loop-at-test.false, take-nil))
+
+pub overflow_mul-value : goal.overflow_mul-value
+overflow_mul-value c = ?
+
+pub overflow_add-value : goal.overflow_add-value
+overflow_add-value c = ?
+
+pub reader::nibble : goal.reader::nibble
+reader::nibble c = ?
