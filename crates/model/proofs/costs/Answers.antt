@@ -1,6 +1,5 @@
 -- `model::costs` meets its contract. The invariant: the rows passed are filled, and the others are 0. Assumes nothing.
 use mathlib.Core.Path.{◌≡◌}
-use Prim.Native.Nat.{◌-◌}
 use native.Mathlib.Omega.{arith}
 use borrow.Author.Rules.{rules}
 use lib.ListN.{length}
@@ -19,4 +18,4 @@ loop-i-preserved c =
     let start = c.args in
     let l = c.loop-i in
     let full : length start.jobs ≡ jobs_most = search rules in
-    (omega arith, omega (arith, c.if-i-n.false), rw (c.cost.ensures, l.invariant.2) (fill_one (cost_on start.kind) start.jobs jobs_most l.i 0 past_end (omega arith) (omega arith)))
+    (omega arith, omega arith, rw (c.cost.ensures, l.invariant.2) (fill_one (cost_on start.kind) start.jobs jobs_most l.i 0 past_end (omega arith) (omega arith)))
