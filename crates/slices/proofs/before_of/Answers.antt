@@ -43,6 +43,3 @@ returns-in-Row c =
     let end : l.i ≡ a.n = omega arith in
     let none = left-none a.rows a.n (omega arith) in
     simp (sym (rw (end, none) at l.invariant.1), c.in-Row.is)
-
-pub slices::later_if : goal.slices::later_if
-slices::later_if c = ?

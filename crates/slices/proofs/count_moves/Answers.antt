@@ -30,6 +30,3 @@ loop-i-preserved c =
       omega (arith, ap (λ (rs : List Slice). count_of (counted is_outer all a.job) rs) e, simp (o.is_outer.ensures, b) at o.one_if-outer.ensures.0),
       omega (arith, ap (λ (rs : List Slice). count_of (counted is_inner all a.job) rs) e, simp (c.is_inner.ensures, b) at c.one_if-inner.ensures.0),
     )
-
-pub slices::before_of : goal.slices::before_of
-slices::before_of c = ?

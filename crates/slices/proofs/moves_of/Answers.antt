@@ -12,6 +12,3 @@ returns-else-n-le-SLICES_MOST c =
     let a = c.args in
     let full : length a.rows ≡ slices_most = search rules in
     rw (take_all a.n a.rows (omega arith)) (rw (take_all slices_most a.rows (omega arith)) at c.count_moves-else-n-le-SLICES_MOST.ensures)
-
-pub slices::count_moves : goal.slices::count_moves
-slices::count_moves c = ?
