@@ -154,19 +154,19 @@ module _ (board : Board) (ss : List Ticks) (fits : Fits board ss) (j : ℕ) (the
   told (whole s1 in1 a b) (whole s2 in2 c d) = go (meet (rw (a, c) refl))
     where
       go : Meet → Told
-      go (inl e) = rw (a, b, c, d) (by-moves (kinds-moves j _ _ _ _ _ _ (λ same. omega (arith, short))) (mover (rw (a, c) refl)))
-      go (inr e) = rw (a, b, c, d) (by-moves (kinds-moves j _ _ _ _ _ _ (λ same. omega arith)) (mover (rw (a, c) refl)))
+      go (inl e) = rw (c, d, a, b) (by-moves (kinds-moves j _ _ _ _ _ _ (λ same. omega (arith, short))) (mover (rw (a, c) refl)))
+      go (inr e) = rw (c, d, a, b) (by-moves (kinds-moves j _ _ _ _ _ _ (λ same. omega arith)) (mover (rw (a, c) refl)))
   told (cut s1 over1 a b) (whole s2 in2 c d) = go (meet (rw (a, c) refl))
     where
       go : Meet → Told
       go (inl e) = absurd (omega (arith, short))
-      go (inr e) = rw (a, b, c, d) (by-moves (first-cut-moves j _ _ _ _ _ _ _ _ (omega (arith, short)) (omega arith)) (mover-cut (rw (a, c) refl)))
+      go (inr e) = rw (c, d, a, b) (by-moves (first-cut-moves j _ _ _ _ _ _ _ _ (omega (arith, short)) (omega arith)) (mover-cut (rw (a, c) refl)))
   told (whole s1 in1 a b) (cut s2 over2 c d) = go (meet (rw (a, c) refl))
     where
       go : Meet → Told
       go (inl e) = absurd (omega (arith, short))
       go (inr e) =
-          rw (a, b, c, d)
+          rw (c, d, a, b)
           (by-moves (second-cut-moves j _ _ _ _ _ _ _ _ (omega (arith, inside Second)) (omega (arith, inside First, short)))
           (mover-cut (rw (a, c) refl)))
   told (cut s1 over1 a b) (cut s2 over2 c d) = go (meet (rw (a, c) refl))

@@ -14,13 +14,12 @@ use Rattle.slices.proofs.before_of.Goals as goal
 pub loop-i-preserved : goal.loop-i-preserved
 unfolding latest
 loop-i-preserved c =
-    let e = c.before.before.before in
-    let l = e.loop-i in
-    let a = e.args in
+    let l = c.loop-i in
+    let a = c.args in
     let full : length a.rows ≡ slices_most = search rules in
     let row = left-cons a.rows a.n (omega arith) l.i no_slice (omega arith) in (
       omega arith,
-      rw (e.later_if-earlier.ensures, e.is_before.ensures) (rw row at l.invariant.1),
+      rw (c.later_if-earlier.ensures, c.is_before.ensures) (rw row at l.invariant.1),
       rw c.later_if-last.ensures (rw row at l.invariant.2),
     )
 

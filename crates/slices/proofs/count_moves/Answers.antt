@@ -16,17 +16,15 @@ use Rattle.slices.proofs.count_moves.Goals as goal
 
 pub loop-i-preserved : goal.loop-i-preserved
 loop-i-preserved c =
-    let o = c.before.before in
-    let s = o.before.before.before in
-    let l = s.loop-i in
-    let a = s.args in
+    let l = c.loop-i in
+    let a = c.args in
     let full : length a.rows ≡ slices_most = search rules in
     let all : List Slice = take a.n a.rows in
     let e = left-cons a.rows a.n (omega arith) l.i no_slice (omega arith) in
-    let b = o.Before-of.ensures in (
+    let b = c.before_of-before.ensures in (
       omega arith,
       omega arith,
       omega arith,
-      omega (arith, ap (λ (rs : List Slice). count_of (counted is_outer all a.job) rs) e, simp (o.is_outer.ensures, b) at o.one_if-outer.ensures.0),
+      omega (arith, ap (λ (rs : List Slice). count_of (counted is_outer all a.job) rs) e, simp (c.is_outer.ensures, b) at c.one_if-outer.ensures.0),
       omega (arith, ap (λ (rs : List Slice). count_of (counted is_inner all a.job) rs) e, simp (c.is_inner.ensures, b) at c.one_if-inner.ensures.0),
     )
