@@ -37,6 +37,7 @@ pub fn is_outside(most: u32, x: u32) -> bool
 }
 
 // Whether a cost on an allowed kind is out of range. A job is its two costs, with 0 where a kind is not allowed.
+#[tactic(auto, unfolding(model::specs::Columns::job_at))]
 fn bad_cost(first: u32, second: u32) -> bool
     ensures { result ≡ bad_cost (job_at first second) }
 {
@@ -53,6 +54,7 @@ fn bad_cost(first: u32, second: u32) -> bool
 }
 
 // Whether every cost on an allowed kind is above the window.
+#[tactic(auto, unfolding(model::specs::Columns::job_at))]
 fn too_long(w: u32, first: u32, second: u32) -> bool
     ensures { result ≡ too_long w (job_at first second) }
 {
@@ -115,6 +117,7 @@ pub fn check_board(board: Board) -> Checked
 }
 
 // Checks 1 to 5 of the first `n` jobs of the columns. More than 64 can be asked for, and are refused.
+#[tactic(auto, using(crate::proofs::CheckByCheck::many_refused))]
 pub fn check(board: Board, first: &[u32; JOBS_MOST], second: &[u32; JOBS_MOST], n: usize) -> Checked
     ensures { says_checked result ≡ legal_of board n (jobs_in n first.now second.now) }
 {

@@ -56,6 +56,7 @@ fn is_before(s: Slice, r: Slice) -> bool
 }
 
 // Which starts later, the slice found so far or row `r`, if that counts.
+#[tactic(auto, unfolding(crate::specs::Moves::later_if))]
 fn later_if(counts: bool, found: Before, r: Slice) -> Before
     ensures { result ≡ later_if counts found r }
 {

@@ -4,17 +4,12 @@ use Prim.Native.Nat.{◌≤◌}
 use native.Mathlib.Omega.{arith}
 use Rattle.rows.proofs.Upto.{upto-length}
 use Rattle.legal.specs.Legal.{legal_of}
-use Rattle.legal.proofs.CheckByCheck.{board-refused, board-passed, Passed, jobs-many, cost-bad, job-long, all-passed, ran-legal}
+use Rattle.legal.proofs.CheckByCheck.{board-refused, board-passed, Passed, cost-bad, job-long, all-passed, ran-legal}
 use Rattle.legal.proofs.check.Goals as goal
 
 pub returns-in-Refused : goal.returns-in-Refused
 unfolding legal_of
 returns-in-Refused c = board-refused _ tt _ _ _ (rw c.in-Refused.is at c.check_board.ensures)
-
-pub returns-then-n-gt-JOBS_MOST : goal.returns-then-n-gt-JOBS_MOST
-returns-then-n-gt-JOBS_MOST c =
-    let passed : Passed c.args.board = board-passed _ tt (rw c.in-Legal.is at c.check_board.ensures) in
-    ran-legal _ _ _ (jobs-many passed (omega arith))
 
 pub returns-then-bad-n : goal.returns-then-bad-n
 returns-then-bad-n c =

@@ -1,14 +1,13 @@
 -- `slices::before_of` meets its contract. The invariant: what the definition makes of each slice found so far and the rows that are left is what
 -- it makes of all. Assumes nothing.
 use mathlib.Core.Path.{◌≡◌, sym, ◌∙◌}
-use Prim.Native.Nat.{◌-◌}
 use native.Mathlib.Omega.{arith}
 use borrow.Author.Rules.{rules}
 use lib.ListN.{length}
 use Rattle.rows.proofs.Walk.{left-cons, left-none}
 use Rattle.model.specs.Empty.{no_slice}
 use Rattle.model.specs.Limits.{slices_most}
-use Rattle.slices.specs.Moves.{is_before, latest}
+use Rattle.slices.specs.Moves.{latest}
 use Rattle.slices.proofs.before_of.Goals as goal
 
 pub loop-i-preserved : goal.loop-i-preserved
