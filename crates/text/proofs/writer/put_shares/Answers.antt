@@ -2,7 +2,7 @@
 -- make. The measure is the rows that are left. Assumes nothing.
 use mathlib.Core.Path.{◌≡◌, ◌∙◌}
 use mathlib.Core.List.{List}
-use Prim.Native.Nat.{ℕ, ◌+◌, ◌-◌}
+use Prim.Native.Nat.{ℕ, ◌+◌, ◌<◌}
 use native.Mathlib.Omega.{arith}
 use lib.ListN.{drop}
 use Rattle.rows.specs.Upto.{at as number}
@@ -20,11 +20,11 @@ share_at first second i = share (number first i) (number second i)
 pub loop-i-preserved : goal.loop-i-preserved
 unfolding digits_of text_of share_records
 loop-i-preserved c =
-    let turn = c.before.before.before.before.before.before in
-    let l = turn.loop-i in
-    let a = turn.args in
+    let l = c.loop-i in
+    let a = c.args in
     let f = share_at a.first.now a.second.now in
-    let left = upto_left a.n f l.i turn.loop-i-test.true in (
+    let more : l.i < a.n = omega arith in
+    let left = upto_left a.n f l.i more in (
       omega arith,
       omega arith,
       omega arith,
@@ -38,6 +38,3 @@ returns c =
     let a = c.args in
     let done : c.loop-i.i ≡ a.n = omega arith in
     rw (done, upto-none a.n (share_at a.first.now a.second.now)) at c.loop-i.invariant.3
-
-pub text::writer::put_share : goal.text::writer::put_share
-text::writer::put_share c = ?
