@@ -293,12 +293,12 @@ twice k = omega arith
 paired-take : {ds bs : List ℕ} → Paired ds bs → (k : ℕ) → Paired (take (k + k) ds) (take k bs)
 paired-take p zero = end
 paired-take end (suc k) = rw (twice k) end
-paired-take (pair h l hs ls p) (suc k) = rw (twice k) (pair h l hs ls (paired-take p k))
+paired-take (pair h l {ds = ds} {bs = bs} hs ls p) (suc k) = rw (twice k) (pair h l hs ls (paired-take {ds = ds} {bs = bs} p k))
 
 paired-drop : {ds bs : List ℕ} → Paired ds bs → (k : ℕ) → Paired (drop (k + k) ds) (drop k bs)
 paired-drop p zero = p
 paired-drop end (suc k) = rw (twice k) end
-paired-drop (pair h l hs ls p) (suc k) = rw (twice k) (paired-drop p k)
+paired-drop (pair h l {ds = ds} {bs = bs} hs ls p) (suc k) = rw (twice k) (paired-drop {ds = ds} {bs = bs} p k)
 
 -- Bytes j to j + k - 1 spell what their digits spell.
 paired-number : {ds bs : List ℕ} → Paired ds bs → (k j : ℕ) → hex_in (take (k + k) (drop (j + j) ds)) ≡ number_in (take k (drop j bs))

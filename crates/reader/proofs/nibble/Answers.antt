@@ -38,22 +38,22 @@ unfolding nibble_of
 last b low = rw (lt-leb b 57 (omega arith), le-leb 48 b (omega arith), lt-leb b 102 (omega arith), le-leb 97 b (omega arith), lt-leb b 70 (omega arith), le-leb 65 b (omega arith))
 
 pub returns-in-48-to-57 : goal.returns-in-48-to-57
-returns-in-48-to-57 c = rw (decimal _ c.if-b-lt48.false c.if-b-lt58.true)
+returns-in-48-to-57 c = rw (decimal c.args.b (omega arith) (omega arith))
 
 pub returns-in-65-to-70 : goal.returns-in-65-to-70
-returns-in-65-to-70 c = rw (capital _ c.if-b-lt65.false c.if-b-lt71.true) (omega arith)
+returns-in-65-to-70 c = rw (capital c.args.b (omega arith) (omega arith)) (omega arith)
 
 pub returns-in-97-to-102 : goal.returns-in-97-to-102
-returns-in-97-to-102 c = rw (small _ c.if-b-lt97.false c.if-b-lt103.true) (omega arith)
+returns-in-97-to-102 c = rw (small c.args.b (omega arith) (omega arith)) (omega arith)
 
 pub returns-in_default : goal.returns-in_default
-returns-in_default c = rw (first _ c.if-b-lt48.true)
+returns-in_default c = rw (first c.args.b (omega arith))
 
 pub returns-in_default-2 : goal.returns-in_default-2
-returns-in_default-2 c = rw (second _ c.if-b-lt58.false c.if-b-lt65.true)
+returns-in_default-2 c = rw (second c.args.b (omega arith) (omega arith))
 
 pub returns-in_default-3 : goal.returns-in_default-3
-returns-in_default-3 c = rw (third _ c.if-b-lt71.false c.if-b-lt97.true)
+returns-in_default-3 c = rw (third c.args.b (omega arith) (omega arith))
 
 pub returns-in_default-4 : goal.returns-in_default-4
-returns-in_default-4 c = rw (last _ c.if-b-lt103.false)
+returns-in_default-4 c = rw (last c.args.b (omega arith))

