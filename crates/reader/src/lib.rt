@@ -72,6 +72,7 @@ enum Row {
 }
 
 // The value of a hexadecimal digit, and 16 for any other byte.
+#[tactic(auto, unfolding(text::specs::Hex::nibble_of))]
 fn nibble(b: u8) -> u8
     ensures { result ≡ value_of (nibble_of b) }
 {
@@ -180,6 +181,7 @@ pub fn cut_at(text: &[u8], from: usize) -> Cut
 }
 
 // A job by its allowed byte. The cost of a kind that is not allowed has to be 0.
+#[tactic(auto, unfolding(crate::specs::Input::job_in))]
 fn job_in(allowed: u32, c1: u32, c2: u32, i: u32) -> Line
     ensures { says_line result ≡ record_says i (entry_job (job_in allowed c1 c2)) }
 {

@@ -17,13 +17,13 @@ behind : (text : List ℕ) (from end : ℕ) (t : Bool) → end ≡ from + length
     → is_end (drop (length (digits_in (drop from text))) (drop from text)) ≡ t
 behind text from end t e is = rw (drop-drop, ← e) (sym is)
 
+pub returns : goal.returns
+returns c =
+    let size : c.args.end - c.args.from ≡ length (digits_in (drop c.args.from c.args.text.now)) = omega arith in
+    rw size (end-even _ (behind c.args.text.now c.args.from c.args.end true (omega arith) (cc)) (λ none. omega arith))
+
 pub returns-then-not-is_end : goal.returns-then-not-is_end
 returns-then-not-is_end c = sym (no-end-none _ (behind c.args.text.now c.args.from c.args.end false (omega arith) (cc)))
 
 pub returns-then-end-from : goal.returns-then-end-from
 returns-then-end-from c = sym (no-digit-none _ (omega arith))
-
-pub returns : goal.returns
-returns c =
-    let size : c.args.end - c.args.from ≡ length (digits_in (drop c.args.from c.args.text.now)) = omega arith in
-    rw size (end-even _ (behind c.args.text.now c.args.from c.args.end true (omega arith) (cc)) (λ none. omega arith))

@@ -19,11 +19,6 @@ long : (first second slices : List ℕ) (n k : ℕ)
     → length (plan_text (shares_in n first second) (slices_in k slices)) ≡ line_size counts_form + line_size share_form * n + line_size slice_form * k
 long first second slices n k = plan-length (shares_in n first second) (slices_in k slices) n k (upto-length n _) (upto-length k _)
 
-pub returns-then-text-size : goal.returns-then-text-size
-returns-then-text-size c =
-    rw (← c.at_most-shared.ensures, ← c.at_most-sliced.ensures)
-    (too_short _ _ _ _ (long c.args.first.now c.args.second.now c.args.slices.now c.at_most-shared.result c.at_most-sliced.result) (omega arith))
-
 pub returns : goal.returns
 returns c =
     let n = c.at_most-shared.result in
@@ -39,3 +34,8 @@ returns c =
       plan-stored ss rows n k (upto-length n _) (upto-length k _),
     )
     (all-written _ _ _ _ (long c.args.first.now c.args.second.now c.args.slices.now n k) (omega arith))
+
+pub returns-then-text-size : goal.returns-then-text-size
+returns-then-text-size c =
+    rw (← c.at_most-shared.ensures, ← c.at_most-sliced.ensures)
+    (too_short _ _ _ _ (long c.args.first.now c.args.second.now c.args.slices.now c.at_most-shared.result c.at_most-sliced.result) (omega arith))
