@@ -90,12 +90,14 @@ module _ {board : Board} {js : List Job} {ss ss' : List Share} {ls ls' : List Sl
       where
         of_four : {m k job : ℕ} → Listed board js m k 4 job → LowestOf BadCost js job
         of_four (cost job lowest sound few) = lowest
+        of_four (room law cause) = elim cause [ ]
 
     pub lowest-long : {job : ℕ} → says_planned r ≡ refused 5 job → LowestOf (TooLong board.window) js job
     lowest-long e = of-five (refused-exactly.0 e)
       where
         of-five : {m k job : ℕ} → Listed board js m k 5 job → LowestOf (TooLong board.window) js job
         of-five (long job lowest sound few costs) = lowest
+        of-five (room law cause) = elim cause [ ]
 
     -- Tables with a row for each job and for the most slices of the set are never refused.
     pub space-only : says_planned r ≡ refused 7 0 → ShortTables board js (length ss) (length ls)
@@ -103,6 +105,7 @@ module _ {board : Board} {js : List Job} {ss ss' : List Share} {ls ls' : List Sl
       where
         of-seven : {m k : ℕ} → Listed board js m k 7 0 → ShortTables board js m k
         of-seven {m} {k} (space shares law is cause) = short-tables board js m k shares law is cause
+        of-seven (room law cause) = elim cause [ ]
 
   -- A refusal changes no entry of the lent tables.
   pub refusal-changes-nothing : {refusal : Refusal} → Promised board js ss ls (Refused refusal) ss' ls' → (ss' ≡ ss) × (ls' ≡ ls)

@@ -1,7 +1,5 @@
--- The promise of the planning call over lent tables, from what it knows of its callees. The walk of `plan` calls `lent` and looks at nothing
--- else of the promise.
+-- The promise of the planning call over lent tables, from what it knows of its callees. The answer for `plan` cites `lent` alone.
 --     read       the column of a kind that `costs_in` makes of the first jobs of a slice
---     few-fits   as many jobs as `rows::at_most` gives fit a set, and are there
 --     plan-read  the plan of what was read is the plan of the slice: all of it was read, or it has too many jobs to be looked at
 --     lent       the promise, of the plan by value of the costs that were read, whose rows were written to both tables
 -- Assumes nothing.
@@ -43,9 +41,6 @@ use Rattle.planner.proofs.PlanKept.{plan-kept}
 
 abbrev pub read : Kind → List Job → ℕ → List ℕ
 read kind js few = map (cost_on kind) (take few js) ++ replicate (jobs_most - few) 0
-
-pub few-fits : (count few : ℕ) → few ≡ min count jobs_most → (few ≤ jobs_most) × (few ≤ count)
-few-fits count few e = (omega (arith, e), omega (arith, e))
 
 -- ---- what was read: all jobs of a set, or some of more than a set may have, which are not looked at
 plan-read : (board : Board) (js : List Job) (m k few : ℕ) → few ≡ min (length js) jobs_most

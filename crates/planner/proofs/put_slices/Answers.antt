@@ -1,0 +1,12 @@
+-- `planner::put_slices` meets its contract: each turn writes the slice of one number more. Assumes nothing.
+use native.Mathlib.Omega.{arith}
+use Rattle.rows.specs.Upto.{at}
+use Rattle.rows.proofs.Upto.{upto-fill}
+use Rattle.model.specs.Packed.{slice_in}
+use Rattle.planner.proofs.put_slices.Goals as goal
+
+pub loop-i-preserved : goal.loop-i-preserved
+loop-i-preserved c =
+    let a = c.args in
+    let x = c.loop-i in
+    (omega arith, rw (c.slice_in.ensures, x.invariant.1) (upto-fill (λ k. slice_in (at a.slices k)) a.table.now x.i (omega arith)))
