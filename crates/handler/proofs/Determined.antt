@@ -27,7 +27,7 @@ use Rattle.handler.proofs.job_at
 use Rattle.handler.specs.contracts.job_at as job_at_contract
 use Rattle.handler.proofs.moved_on
 use Rattle.handler.specs.contracts.moved_on as moved_on_contract
-use Rattle.handler.specs.contracts.move_on
+use Rattle.handler.specs.contracts.move_on as move_on_contract
 
 pub check-table-once : Determines check_table_contract.ended check_table.Reads.Learnt
 check-table-once κs args r s p q i = (checked-once _ r.0 s.0 p q i, r.1)
@@ -69,9 +69,9 @@ moved-on-once κs args r s p q =
     λ i. (record { tick = tick i; moved = moved i }, r.1)
 
 -- A function that takes a reference to a record has no generated reading. This one is made as those are, of the contract's own clause.
-module _ (κs : Lfts 1) (args : Args move_on.signature κs) (r : Moved) (last : AtExit move_on_contract.ended κs) where
+module _ (κs : Lfts 1) (args : Args move_on_contract.signature κs) (r : Moved) (last : AtExit move_on_contract.ended κs) where
   abbrev move-on-read : Read (λ w. emp w.𝓤) no_know
-      (λ w. (move_on.clauses w.𝓛 w.𝓜.mem w.𝓡.run κs args).ensures tt r last)
+      (λ w. (move_on_contract.clauses w.𝓛 w.𝓜.mem w.𝓡.run κs args).ensures tt r last)
   move-on-read = all_models _ (λ w. r_last _) (λ w. refl) (λ w. refl) (λ w. refl)
 
   abbrev move_on_learnt : Type 0

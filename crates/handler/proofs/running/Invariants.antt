@@ -1,9 +1,16 @@
 -- `handler::running` meets its contract. The invariant: the walk has come to place i, and the rows from there on say what all say. Assumes nothing.
-use Prim.Native.Nat.{◌-◌, ◌≤◌}
-use lib.ListN.{length}
-use Rattle.rows.specs.Upto.{at}
+use mathlib.Core.Path.{◌≡◌}
+use Prim.Native.Nat.{ℕ, ◌-◌, ◌≤◌}
+use lib.ListN.{length, drop}
+use Rattle.rows.specs.Upto.{upto, at}
 use Rattle.model.specs.Packed.{slice_in}
+use Rattle.model.specs.declared.Slice.{Slice}
+use Rattle.handler.specs.Running.{running_in}
 use Rattle.handler.proofs.running.Given as goal
+
+module _ (tick kind core n : ℕ) (f : ℕ → Slice) where
+  abbrev pub CameTo : ℕ → Type 0
+  CameTo i = running_in tick kind core (drop i (upto n f)) ≡ running_in tick kind core (upto n f)
 
 abbrev pub invariant-loop-i : goal.invariant-loop-i
 invariant-loop-i l =
