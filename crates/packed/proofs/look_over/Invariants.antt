@@ -1,5 +1,5 @@
 -- `packed::look_over` meets its contract: the invariant is that of Looked.antt, and the measure is the rows that are left. Assumes nothing.
-use Prim.Native.Nat.{◌-◌, ◌≤◌}
+use Prim.Native.Nat.{◌≤◌}
 use Rattle.handler.specs.Running.{says_named}
 use Rattle.packed.specs.Packed.{count_in}
 use Rattle.packed.proofs.Looked.{Looked}
