@@ -43,10 +43,11 @@ compile() {
     find_compilers && mkdir -p target/c && quietly $cc -std=c11 -O2 -Wall -Wextra -Werror "$@"
 }
 
-# static_library: writes target/staticlib/libclampfern.a, where it is not newer than every source already.
+# static_library: writes target/staticlib/libclampfern.a, the archive of crate clampfern_c, where it is not newer than every source already.
 static_library() {
     local library=target/staticlib/libclampfern.a
-    [ -e $library ] && [ -z "$(find crates crates.txt -newer $library -print -quit)" ] || quietly rt staticlib clampfern
+    [ -e $library ] && [ -z "$(find crates crates.txt -path '*/out' -prune -o -newer $library -print -quit)" ] && return
+    (cd crates/clampfern_c && quietly rt lib) && mkdir -p target/staticlib && cp crates/clampfern_c/out/libclampfern_c.a $library
 }
 
 # c_program NAME [WORD..]: builds target/c/NAME from tests/c/NAME.c and the static library; the words go to the compiler's end.

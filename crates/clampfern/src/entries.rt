@@ -1,5 +1,5 @@
-// The tick handler's C entries: what the board's kernel calls at each tick (include/clampfern.h). The lines are read, and the answers found, in the
-// crates below; here each answer becomes the one number that C gets.
+// The tick handler for C: what the board's kernel calls at each tick, by the exports of crate clampfern_c (include/clampfern.h). The lines are read, and
+// the answers found, in the crates below; here each answer becomes the one number that C gets.
 ghost use Rattle.std.specs.Prelude.{◌≡◌};
 ghost use Rattle.handler.specs.Running.{says_named};
 ghost use Rattle.packed.specs.Packed.{packed_asked};
@@ -25,16 +25,14 @@ fn code(named: Named) -> u32
 }
 
 // What the lines say of a core at a tick: a job's number, 256 for none, 512 plus the number of a refusal.
-#[unsafe(no_mangle)]
-pub extern "C" fn clampfern_tick(lines: &[u8], tick: u32, kind: u32, core: u32) -> u32
+pub fn clampfern_tick(lines: &[u8], tick: u32, kind: u32, core: u32) -> u32
     ensures { result ≡ code_of (tick_of lines.now tick kind core) }
 {
     code(kernel::tick(lines, tick, kind, core))
 }
 
 // Packs the table of lines, once: how many bytes were written, and 0 where it is refused, and then no byte of `table` changed.
-#[unsafe(no_mangle)]
-pub extern "C" fn clampfern_pack(lines: &[u8], table: &mut [u8]) -> usize
+pub fn clampfern_pack(lines: &[u8], table: &mut [u8]) -> usize
     ensures { PackedBytes lines.now table.old table.new result }
 {
     match kernel::pack(lines, table) {
@@ -44,8 +42,7 @@ pub extern "C" fn clampfern_pack(lines: &[u8], table: &mut [u8]) -> usize
 }
 
 // The same as `clampfern_tick`, of packed bytes, which are looked over once.
-#[unsafe(no_mangle)]
-pub extern "C" fn clampfern_packed_tick(table: &[u8], tick: u32, kind: u32, core: u32) -> u32
+pub fn clampfern_packed_tick(table: &[u8], tick: u32, kind: u32, core: u32) -> u32
     ensures { result ≡ code_of (packed_asked table.now tick kind core) }
 {
     code(packed::packed_tick(table, tick, kind, core))

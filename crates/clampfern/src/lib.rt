@@ -1,4 +1,5 @@
-// The planner from text to text, and its C entry: the library that users link (include/clampfern.h). entries.rt has those of the tick handler.
+// The planner from text to text, and what C gets of it: crate clampfern_c exports the functions `clampfern_..` of this crate. entries.rt has those of
+// the tick handler.
 #![tactic(auto)]
 
 ghost use Rattle.std.specs.Prelude.{◌<◌};
@@ -76,8 +77,7 @@ pub fn plan_text(text: &[u8], out: &mut [u8]) -> Written
 }
 
 // The same for C: how many bytes were written, and 0 where `out` is too short for the lines, and then no byte of it changed.
-#[unsafe(no_mangle)]
-pub extern "C" fn clampfern_plan(text: &[u8], out: &mut [u8]) -> usize
+pub fn clampfern_plan(text: &[u8], out: &mut [u8]) -> usize
     ensures { Entered text.now out.old out.new result }
 {
     match plan_text(text, out) {
