@@ -1,14 +1,14 @@
-// The standard input and output of our programs, over the C library's read and write. A read that failed is told from the end of the input, and
-// a write that moved a part or failed from one that moved all. No contract can say which bytes were read or written. What is proved: each function
-// is safe and ends, a count lies within its buffer, and no answer below 0 says the end (`call_of`). What the loops make of that tests/plan.sh tries.
+// The standard input and output of our programs, over std's read and write. A read that failed is told from the end of the input, and a write that
+// moved a part or failed from one that moved all. No contract can say which bytes were read or written. What is proved: each function is safe and
+// ends, a count lies within its buffer, and no error says the end (`call_of`). What the loops make of that tests/plan.sh tries.
 #![tactic(auto)]
 
 ghost use Rattle.std.specs.Prelude.{◌≡◌, nat_abs};
 ghost use Rattle.streams.specs.Call.{Said};
 ghost use Rattle.streams.specs.Input.{Held};
 
-use libc::{EINTR, STDERR_FILENO, STDIN_FILENO, STDOUT_FILENO};
 use model::TEXT_MOST;
+use std::io::{ErrorKind, Read, Result, Stderr, Stdin, Stdout, Write};
 
 // One byte more than a text may have, so that a longer one is seen to be longer, whatever follows.
 pub const INPUT_MOST: usize = TEXT_MOST + 1;
@@ -33,13 +33,13 @@ enum Call {
 }
 
 // Reads standard input until it ends or buf is full.
-pub fn read_input(buf: &mut [u8]) -> Got
+pub fn read_input(mut input: Stdin, buf: &mut [u8]) -> Got
     ensures { Held result buf.new }
 {
     let mut done = 0;
     let mut spare = INTERRUPTIONS_MOST;
     while done < buf.len() {
-        match call_of(libc::read(STDIN_FILENO, &mut buf[done..]), spare) {
+        match call_of(input.read(&mut buf[done..]), spare) {
             Call::Moved(n) => done += n,
             Call::Ended => return Got::Whole(done),
             Call::Interrupted => spare -= 1,
@@ -50,21 +50,21 @@ pub fn read_input(buf: &mut [u8]) -> Got
 }
 
 // Writes all the bytes to standard output and answers true. Where it answers false, some of them may have been written.
-pub fn write_output(bytes: &[u8]) -> bool {
-    write_to(STDOUT_FILENO, bytes)
+pub fn write_output(mut output: Stdout, bytes: &[u8]) -> bool {
+    write_to(&mut output, bytes)
 }
 
 // Writes a line, its line feed included, to standard error. Where that fails too, there is nobody to tell.
-pub fn complain(line: &[u8]) {
-    write_to(STDERR_FILENO, line);
+pub fn complain(mut errors: Stderr, line: &[u8]) {
+    write_to(&mut errors, line);
 }
 
 // Writes all the bytes, or stops at the first call that fails or takes nothing.
-fn write_to(fd: i32, bytes: &[u8]) -> bool {
+fn write_to<W: Write>(to: &mut W, bytes: &[u8]) -> bool {
     let mut done = 0;
     let mut spare = INTERRUPTIONS_MOST;
     while done < bytes.len() {
-        match call_of(libc::write(fd, &bytes[done..]), spare) {
+        match call_of(to.write(&bytes[done..]), spare) {
             Call::Moved(n) => done += n,
             Call::Interrupted => spare -= 1,
             Call::Ended | Call::Failed => return false,
@@ -73,18 +73,15 @@ fn write_to(fd: i32, bytes: &[u8]) -> bool {
     true
 }
 
-// What a call said by its answer, and where that is below 0 by errno. An interruption is one only while the stream has spare ones left.
-fn call_of(got: isize, spare: usize) -> Call
+// What a call said. An interruption is one only while the stream has spare ones left.
+fn call_of(got: Result<usize>, spare: usize) -> Call
     ensures { Said got spare result }
 {
-    if got > 0 {
-        Call::Moved(got as usize)
-    } else if got == 0 {
-        Call::Ended
-    } else if spare > 0 && os::errno() == EINTR {
-        Call::Interrupted
-    } else {
-        Call::Failed
+    match got {
+        Ok(0) => Call::Ended,
+        Ok(n) => Call::Moved(n),
+        Err(e) if spare > 0 && e.kind() == ErrorKind::Interrupted => Call::Interrupted,
+        Err(_) => Call::Failed,
     }
 }
 

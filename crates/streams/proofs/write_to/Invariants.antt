@@ -5,7 +5,7 @@ use lib.ListN.{length}
 use Rattle.streams.proofs.write_to.Given as goal
 
 abbrev pub invariant-loop-done : goal.invariant-loop-done
-invariant-loop-done l = l.done ≤ length l.bytes
+invariant-loop-done g l = l.done ≤ length l.bytes
 
 abbrev pub decreases-loop-done : goal.decreases-loop-done
-decreases-loop-done l = length l.bytes - l.done + l.spare
+decreases-loop-done g l = length l.bytes - l.done + l.spare
