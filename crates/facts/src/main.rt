@@ -35,63 +35,63 @@ struct Lent {
 }
 
 // Where a piece cannot be written it says so, once for each piece.
-fn put(text: &[u8]) {
-    if !streams::write_output(text) {
-        streams::complain(b"facts: the answer cannot be written\n");
+fn put(rt: &HostRuntime, text: &[u8]) {
+    if !streams::write_output(rt.stdout(), text) {
+        streams::complain(rt.stderr(), b"facts: the answer cannot be written\n");
     }
 }
 
-fn put_number(n: u64) {
+fn put_number(rt: &HostRuntime, n: u64) {
     let mut digits = [0u8; 20];
     let count = io::decimal(n, &mut digits);
-    put(&digits[..count]);
+    put(rt, &digits[..count]);
 }
 
-fn put_signed(n: i64) {
+fn put_signed(rt: &HostRuntime, n: i64) {
     if n < 0 {
-        put(b"-");
+        put(rt, b"-");
     }
-    put_number(streams::size_of(n));
+    put_number(rt, streams::size_of(n));
 }
 
-fn put_refused(refusal: Refusal) {
-    put(b"refused ");
-    put_number(model::number(refusal) as u64);
-    put(b" ");
-    put_number(model::place(refusal));
-    put(b"\n");
+fn put_refused(rt: &HostRuntime, refusal: Refusal) {
+    put(rt, b"refused ");
+    put_number(rt, model::number(refusal) as u64);
+    put(rt, b" ");
+    put_number(rt, model::place(refusal));
+    put(rt, b"\n");
 }
 
 // The starting balance. A set that has none is refused by the planning call too, which says why.
-fn put_balance(balanced: Balanced) {
+fn put_balance(rt: &HostRuntime, balanced: Balanced) {
     match balanced {
         Balanced::Given(b) => {
-            put(b"balance ");
-            put_signed(b.first);
-            put(b" ");
-            put_signed(b.second);
-            put(b"\n");
+            put(rt, b"balance ");
+            put_signed(rt, b.first);
+            put(rt, b" ");
+            put_signed(rt, b.second);
+            put(rt, b"\n");
         }
         Balanced::Refused(_) => {}
     }
 }
 
-fn put_job(job: usize, moves: Moves) {
-    put(b"moves ");
-    put_number(job as u64);
-    put(b" ");
-    put_number(moves.outer as u64);
-    put(b" ");
-    put_number(moves.inner as u64);
-    put(b"\n");
+fn put_job(rt: &HostRuntime, job: usize, moves: Moves) {
+    put(rt, b"moves ");
+    put_number(rt, job as u64);
+    put(rt, b" ");
+    put_number(rt, moves.outer as u64);
+    put(rt, b" ");
+    put_number(rt, moves.inner as u64);
+    put(rt, b"\n");
 }
 
-fn put_moves(moves: [Moves; JOBS_MOST], n: usize) {
+fn put_moves(rt: &HostRuntime, moves: [Moves; JOBS_MOST], n: usize) {
     let mut i: usize = 0;
     while i < JOBS_MOST {
         let of_job = moves[i];
         if i < n {
-            put_job(i, of_job);
+            put_job(rt, i, of_job);
         }
         i += 1;
     }
@@ -453,42 +453,42 @@ fn is_right(board: Board, jobs: [Job; JOBS_MOST], n: usize, lent: Lent, moved: P
 }
 
 // The facts of a set of the first `n` jobs.
-fn show(board: Board, jobs: [Job; JOBS_MOST], n: usize)
+fn show(rt: &HostRuntime, board: Board, jobs: [Job; JOBS_MOST], n: usize)
     requires { n ≤ jobs_most }
 {
-    put_balance(split::starting_balance(board, jobs, n));
+    put_balance(rt, split::starting_balance(board, jobs, n));
     let lent = plan_over_marks(board, jobs, n, JOBS_MOST, SLICES_MOST);
     let moved = planner::moves(board, jobs, n);
     let planned = lent.planned;
     match planned {
-        Planned::Refused(refusal) => put_refused(refusal),
+        Planned::Refused(refusal) => put_refused(rt, refusal),
         Planned::Plan(shared, _) => {
             let moves = moved.moves;
-            put_moves(moves, shared);
+            put_moves(rt, moves, shared);
         }
     }
     if !is_right(board, jobs, n, lent, moved) {
-        put(b"lent wrong\n");
+        put(rt, b"lent wrong\n");
     }
 }
 
 // The facts of a text.
-fn show_text(text: &[u8]) {
+fn show_text(rt: &HostRuntime, text: &[u8]) {
     let mut first = [0u32; JOBS_MOST];
     let mut second = [0u32; JOBS_MOST];
     match reader::read(text, &mut first, &mut second) {
-        Reading::Refused(refusal) => put_refused(refusal),
+        Reading::Refused(refusal) => put_refused(rt, refusal),
         Reading::Set(board, n) => {
             let jobs = jobs_of(first, second);
-            show(board, jobs, n);
+            show(rt, board, jobs, n);
         }
     }
 }
 
-fn main() {
+fn main(rt: HostRuntime) {
     let mut input = [0u8; INPUT_MOST];
-    match streams::read_input(&mut input) {
-        Got::Whole(count) => show_text(&input[..count]),
-        Got::Failed => streams::complain(b"facts: the input cannot be read\n"),
+    match streams::read_input(rt.stdin(), &mut input) {
+        Got::Whole(count) => show_text(&rt, &input[..count]),
+        Got::Failed => streams::complain(rt.stderr(), b"facts: the input cannot be read\n"),
     }
 }

@@ -6,19 +6,19 @@
 use streams::{Got, INPUT_MOST};
 
 // Writes the answer to a text.
-fn answer(text: &[u8]) {
+fn answer(rt: &HostRuntime, text: &[u8]) {
     let lines = clampfern::answer(text);
     let bytes = lines.bytes;
     let size = lines.size;
-    if !streams::write_output(&bytes[..size]) {
-        streams::complain(b"plan: the answer cannot be written\n");
+    if !streams::write_output(rt.stdout(), &bytes[..size]) {
+        streams::complain(rt.stderr(), b"plan: the answer cannot be written\n");
     }
 }
 
-fn main() {
+fn main(rt: HostRuntime) {
     let mut input = [0u8; INPUT_MOST];
-    match streams::read_input(&mut input) {
-        Got::Whole(count) => answer(&input[..count]),
-        Got::Failed => streams::complain(b"plan: the input cannot be read\n"),
+    match streams::read_input(rt.stdin(), &mut input) {
+        Got::Whole(count) => answer(&rt, &input[..count]),
+        Got::Failed => streams::complain(rt.stderr(), b"plan: the input cannot be read\n"),
     }
 }

@@ -25,43 +25,43 @@ struct Walked {
 }
 
 // Where a piece cannot be written it says so, once for each piece.
-fn put(text: &[u8]) {
-    if !streams::write_output(text) {
-        streams::complain(b"window: the answer cannot be written\n");
+fn put(rt: &HostRuntime, text: &[u8]) {
+    if !streams::write_output(rt.stdout(), text) {
+        streams::complain(rt.stderr(), b"window: the answer cannot be written\n");
     }
 }
 
-fn put_number(n: u64) {
+fn put_number(rt: &HostRuntime, n: u64) {
     let mut digits = [0u8; 20];
     let count = io::decimal(n, &mut digits);
-    put(&digits[..count]);
+    put(rt, &digits[..count]);
 }
 
 // A blank and a count of each kind, which end a line.
-fn put_counts(first: u32, second: u32) {
-    put(b" ");
-    put_number(first as u64);
-    put(b" ");
-    put_number(second as u64);
-    put(b"\n");
+fn put_counts(rt: &HostRuntime, first: u32, second: u32) {
+    put(rt, b" ");
+    put_number(rt, first as u64);
+    put(rt, b" ");
+    put_number(rt, second as u64);
+    put(rt, b"\n");
 }
 
-fn put_refused(refusal: Refusal) {
-    put(b"refused ");
-    put_number(model::number(refusal) as u64);
-    put(b" ");
-    put_number(model::place(refusal));
-    put(b"\n");
+fn put_refused(rt: &HostRuntime, refusal: Refusal) {
+    put(rt, b"refused ");
+    put_number(rt, model::number(refusal) as u64);
+    put(rt, b" ");
+    put_number(rt, model::place(refusal));
+    put(rt, b"\n");
 }
 
 // The jobs that were named, by number.
-fn put_jobs(first: [u32; COUNTS], second: [u32; COUNTS]) {
+fn put_jobs(rt: &HostRuntime, first: [u32; COUNTS], second: [u32; COUNTS]) {
     let mut job: usize = 0;
     while job < IDLE {
         if first[job] > 0 || second[job] > 0 {
-            put(b"job ");
-            put_number(job as u64);
-            put_counts(first[job], second[job]);
+            put(rt, b"job ");
+            put_number(rt, job as u64);
+            put_counts(rt, first[job], second[job]);
         }
         job += 1;
     }
@@ -102,7 +102,14 @@ fn cores_of(lines: &[u8], kind: u32) -> u32 {
 
 // Counts what the cores of a kind do at a tick: a count is at most 65,535 times 8, so it never wraps. A core that is there is not refused; a line would
 // show it.
-fn count_kind(lines: &[u8], tick: u32, kind: u32, cores: u32, counts: &mut [u32; COUNTS]) {
+fn count_kind(
+    rt: &HostRuntime,
+    lines: &[u8],
+    tick: u32,
+    kind: u32,
+    cores: u32,
+    counts: &mut [u32; COUNTS],
+) {
     let mut core: u32 = 0;
     while core < cores {
         match kernel::tick(lines, tick, kind, core) {
@@ -111,7 +118,7 @@ fn count_kind(lines: &[u8], tick: u32, kind: u32, cores: u32, counts: &mut [u32;
                 counts[at] = std::num::wrapping_add_u32(counts[at], 1);
             }
             Named::Idle => counts[IDLE] = std::num::wrapping_add_u32(counts[IDLE], 1),
-            Named::Refused(refusal) => put_refused(refusal),
+            Named::Refused(refusal) => put_refused(rt, refusal),
         }
         core += 1;
     }
@@ -161,7 +168,7 @@ fn refuse_alike(window: u32) -> bool {
 }
 
 // Goes through one window of lines that are not refused, from position 0.
-fn walk(lines: &[u8], window: u32) -> Walked {
+fn walk(rt: &HostRuntime, lines: &[u8], window: u32) -> Walked {
     let cores1 = cores_of(lines, 1);
     let cores2 = cores_of(lines, 2);
     let mut first = [0u32; COUNTS];
@@ -170,8 +177,8 @@ fn walk(lines: &[u8], window: u32) -> Walked {
     let mut tick: u32 = 0;
     let mut moves: u32 = 0;
     while moves < window {
-        count_kind(lines, tick, 1, cores1, &mut first);
-        count_kind(lines, tick, 2, cores2, &mut second);
+        count_kind(rt, lines, tick, 1, cores1, &mut first);
+        count_kind(rt, lines, tick, 2, cores2, &mut second);
         alike = alike && moves_alike(window, tick);
         let next = moved_lent(window, tick);
         tick = next.tick;
@@ -185,33 +192,33 @@ fn walk(lines: &[u8], window: u32) -> Walked {
     }
 }
 
-fn put_walked(walked: Walked) {
+fn put_walked(rt: &HostRuntime, walked: Walked) {
     let first = walked.first;
     let second = walked.second;
-    put_jobs(first, second);
-    put(b"idle");
-    put_counts(first[IDLE], second[IDLE]);
-    put(b"position ");
-    put_number(walked.tick as u64);
-    put(b"\n");
+    put_jobs(rt, first, second);
+    put(rt, b"idle");
+    put_counts(rt, first[IDLE], second[IDLE]);
+    put(rt, b"position ");
+    put_number(rt, walked.tick as u64);
+    put(rt, b"\n");
     if !walked.alike {
-        put(b"position wrong\n");
+        put(rt, b"position wrong\n");
     }
 }
 
 // Every board that is accepted has a first tick and a first core of the first kind, so what is refused there is the lines or their table.
-fn show(lines: &[u8]) {
+fn show(rt: &HostRuntime, lines: &[u8]) {
     match kernel::tick(lines, 0, 1, 0) {
-        Named::Refused(refusal) => put_refused(refusal),
-        Named::Job(_) => put_walked(walk(lines, window_of(lines))),
-        Named::Idle => put_walked(walk(lines, window_of(lines))),
+        Named::Refused(refusal) => put_refused(rt, refusal),
+        Named::Job(_) => put_walked(rt, walk(rt, lines, window_of(lines))),
+        Named::Idle => put_walked(rt, walk(rt, lines, window_of(lines))),
     }
 }
 
-fn main() {
+fn main(rt: HostRuntime) {
     let mut input = [0u8; INPUT_MOST];
-    match streams::read_input(&mut input) {
-        Got::Whole(count) => show(&input[..count]),
-        Got::Failed => streams::complain(b"window: the input cannot be read\n"),
+    match streams::read_input(rt.stdin(), &mut input) {
+        Got::Whole(count) => show(&rt, &input[..count]),
+        Got::Failed => streams::complain(rt.stderr(), b"window: the input cannot be read\n"),
     }
 }
