@@ -31,7 +31,7 @@ mod Packing
 --
 -- What the functions' proofs cite: the lines of what was read and planned.
 mod Lines
--- The counts that the C entries give.
+-- What the C entry gives, where the answer fits.
 mod Entry
 --
 -- Each promise allows one result alone. No promise needs it.

@@ -1,6 +1,6 @@
 -- The lines of a plan in columns are the plan's, and those of the plan of what was read are the answer to the text. Assumes nothing.
---   columns-planned, columns-refused   what the code's columns hold, or its refusal, is the plan of the set
---   read-planned, read-refused   what was read from a text into full columns is answered as the text is
+--   columns-planned   what the code's columns hold is the plan of the set
+--   read-planned   what was read from a text into full columns is answered as the text is
 --   columns-place, read-place   the place of a refusal takes one byte
 use mathlib.Core.Path.{◌≡◌, refl, ap}
 use mathlib.Core.List.{List, map}
@@ -98,9 +98,6 @@ module _ {board : Board} {n : ℕ} {js : List Job} {s1 s2 rows : List ℕ} {r : 
         go (given p) says = never (cc)
         go (refused number place) says = cc
 
-    pub columns-refused : plan_of board n js jobs_most slices_most ≡ says_refusal refusal
-    columns-refused = rw (← size) plan-refused
-
     -- Its place is a job, or the count of all.
     pub columns-place : place_of refusal < 256
     columns-place = omega (arith, (listed_small (plan-listed board js jobs_most slices_most _ _ plan-refused)).3)
@@ -127,7 +124,7 @@ module _ (text : List ℕ) {c1 c2 : List ℕ} {r : Reading} (reads : Reads text 
       go (refused number place) g = never (cc)
 
   module _ {refusal : Refusal} (is : r ≡ Unread refusal) where
-    pub read-refused : input_of text ≡ says_refusal refusal
+    read-refused : input_of text ≡ says_refusal refusal
     read-refused = go (input_of text) reads
       where
         go : (x : Answer Input) → Gives x (in_columns x jobs_most jobs_most) zeros zeros r c1 c2 → x ≡ says_refusal refusal

@@ -2,7 +2,7 @@
 use mathlib.Core.Path.{sym}
 use Prim.Native.Nat.{◌<◌}
 use native.Mathlib.Omega.{arith}
-use lib.ListN.{length, length-drop}
+use lib.ListN.{length-drop}
 use Rattle.reader.proofs.Cuts.{cut_fits}
 use Rattle.kernel.proofs.LineByLine.{turn-missing, turn_last, turn-refused, turn-nothing, turn-room, turn-row}
 use Rattle.kernel.proofs.Tables.{hands-refused, hands-rows}
