@@ -1,0 +1,12 @@
+-- `split::steps::moved` meets its contract: the ticks on the other kind are at most the cost there. Assumes nothing.
+use borrow.Author.Tests.{le-leb, lt-leb}
+use Rattle.split.specs.Steps.{moved_of}
+use Rattle.split.proofs.steps.moved.Goals as goal
+
+pub returns-then-room-others : goal.returns-then-room-others
+unfolding moved_of
+returns-then-room-others c = simp (c.far_end-end.ensures, le-leb _ _ (rw c.far_end-end.ensures at c.if-room-others.true))
+
+pub returns : goal.returns
+unfolding moved_of
+returns c = simp (lt-leb _ _ (rw c.far_end-end.ensures at c.if-room-others.false))
