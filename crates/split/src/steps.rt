@@ -88,6 +88,7 @@ fn advance(
 }
 
 // Which of the row found so far and row `i` is to be moved first: by near/far, compared as products. A row whose near cost is 0 takes no place.
+#[tactic(auto, unfolding(crate::specs::Columns::better_of))]
 fn better_of(found: Best, i: usize, near: u32, far: u32) -> Best
     requires { Small found }
     ensures { (result ≡ better_of found i near far) × Small result }

@@ -11,13 +11,13 @@ use Rattle.split.proofs.home.go_home.Goals as goal
 pub overflow_cast-s1 : goal.overflow_cast-s1
 overflow_cast-s1 c =
     let a = c.args in
-    let h = (homes-fit window_most a.n a.first.now a.second.now c.requires.all c.loop-i.i (omega arith)).0 in
+    let h = homes-fit window_most a.n a.first.now a.second.now c.requires.all c.loop-i.i (omega arith) in
     rw c.at_home-to.ensures (omega arith)
 
 pub overflow_cast-s2 : goal.overflow_cast-s2
 overflow_cast-s2 c =
     let a = c.args in
-    let h = (homes-fit window_most a.n a.first.now a.second.now c.requires.all c.loop-i.i (omega arith)).1 in
+    let h = homes-fit window_most a.n a.first.now a.second.now c.requires.all c.loop-i.i (omega arith) in
     rw c.at_home-to.ensures (omega arith)
 
 pub loop-i-preserved : goal.loop-i-preserved
