@@ -1,5 +1,5 @@
 -- `split::split` meets its contract: a set that passes the checks is split, any other is refused by them. Assumes nothing.
-use mathlib.Core.Path.{◌≡◌, sym}
+use mathlib.Core.Path.{sym}
 use mathlib.Core.List.{List}
 use Prim.Native.Nat.{ℕ}
 use Rattle.model.specs.declared.Board.{Board}

@@ -1,7 +1,6 @@
 -- `split::home::go_home` meets its contract: the ticks at home are within the longest window, and so within two bytes; one job more goes home.
 -- Assumes nothing.
 use native.Mathlib.Omega.{arith}
-use borrow.Author.Rules.{rules}
 use lib.ListN.{length-set}
 use Rattle.model.specs.Limits.{window_most}
 use Rattle.split.proofs.home.Homes.{homes-fit}

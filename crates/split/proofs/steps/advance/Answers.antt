@@ -1,15 +1,14 @@
--- `split::steps::advance` meets its contract: the stores and the sums are those of the step's rule, which keeps within the window. Assumes nothing.
-use native.Mathlib.Omega.{arith}
-use Prim.Native.Nat.{◌≤◌}
-use borrow.Author.Rules.{rules}
-use Rattle.model.specs.Limits.{window_most}
-use Rattle.split.specs.Columns.{Asks, end_of, gone_to}
-use Rattle.split.specs.Home.{both_row}
-use Rattle.split.specs.declared.Ends.{Ends}
-use Rattle.split.proofs.steps.OneStep.{moved-fits}
+-- `split::steps::advance` meets its contract: the step's rule keeps within the window, and so within two bytes. Assumes nothing.
 use mathlib.Core.Path.{◌≡◌}
 use mathlib.Core.Bool.{true}
-use Prim.Native.Nat.{ℕ}
+use Prim.Native.Nat.{ℕ, ◌≤◌}
+use native.Mathlib.Omega.{arith}
+use borrow.Author.Rules.{rules}
+use Rattle.model.specs.Limits.{window_most}
+use Rattle.split.specs.Home.{both_row}
+use Rattle.split.specs.Columns.{Asks, gone_to, end_of}
+use Rattle.split.specs.declared.Ends.{Ends}
+use Rattle.split.proofs.steps.OneStep.{moved-fits}
 use Rattle.split.proofs.steps.advance.Goals as goal
 
 -- Where the row goes: within the window, and so within two bytes.

@@ -1,5 +1,4 @@
--- `split::steps::far_end` meets its contract: the quotient that is rounded up is at most the near cost, and so at most the window. Assumes nothing.
-use Prim.Native.Nat.{◌-◌}
+-- `split::steps::far_end` meets its contract: the test is that of the definition. Assumes nothing.
 use borrow.Author.Tests.{le-leb, lt-leb}
 use Rattle.split.specs.Home.{keep_of, give_of}
 use Rattle.split.proofs.steps.far_end.Goals as goal

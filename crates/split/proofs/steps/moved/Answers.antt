@@ -1,4 +1,4 @@
--- `split::steps::moved` meets its contract: the ticks on the other kind are at most the cost there. Assumes nothing.
+-- `split::steps::moved` meets its contract: the test is that of the definition, with the far end that `far_end` gives. Assumes nothing.
 use borrow.Author.Tests.{le-leb, lt-leb}
 use Rattle.split.specs.Steps.{moved_of}
 use Rattle.split.proofs.steps.moved.Goals as goal

@@ -1,6 +1,6 @@
 -- `split::steps::steps` meets its contract. The invariant: the steps that are left, on the rows of the columns as they are now, end where all steps
 -- end (Runs). Assumes nothing.
-use Prim.Native.Nat.{◌-◌, ◌<◌}
+use Prim.Native.Nat.{◌-◌}
 use native.Mathlib.Omega.{arith}
 use borrow.Author.Rules.{rules}
 use Rattle.split.proofs.steps.Runs.{ends_last, ends-within, ends-nobody, found_within, found-asks, goes_on}

@@ -1,6 +1,5 @@
 -- `split::steps::steps` meets its contract. The invariant: the steps that are left, on the rows of the columns as they are now, end where all steps
 -- end (Runs). Assumes nothing.
-use Prim.Native.Nat.{◌-◌}
 use Rattle.split.proofs.steps.Runs.{Runs}
 use Rattle.split.proofs.steps.steps.Given as goal
 
