@@ -29,8 +29,8 @@ room_most {board} First l = room-limit board First l.first-most l.window-most
 room_most {board} Second l = room-limit board Second l.second-most l.window-most
 
 -- The balance of the two columns is that of the jobs.
-same : (board : Board) (n : ℕ) (jobs : List Job) (c1 c2 : List ℕ) → length jobs ≡ jobs_most → c1 ≡ costs First (take n jobs) → c2 ≡ costs Second (take n jobs)
-    → balance_of board n (jobs_in n c1 c2) ≡ balance_of board n (take n jobs)
+same : (board : Board) (n : ℕ) (jobs : List Job) (c1 c2 : List ℕ) → length jobs ≡ jobs_most → c1 ≡ costs First (take n jobs)
+    → c2 ≡ costs Second (take n jobs) → balance_of board n (jobs_in n c1 c2) ≡ balance_of board n (take n jobs)
 same board n jobs c1 c2 full e1 e2 = rw (e1, e2) (balance-costs board n jobs full)
 
 pub home_ticks-ticks-requires : goal.home_ticks-ticks-requires
@@ -49,8 +49,9 @@ less-requires-in-Legal c =
 pub returns-in-Refused : goal.returns-in-Refused
 returns-in-Refused c =
     let a = c.args in
-    let e = rw c.in-Refused.is at c.check.ensures in
-    rw (← same a.board a.n a.jobs c.costs-first.result c.costs-second.result (search rules) c.costs-first.ensures c.costs-second.ensures, ← e)
+    let e = same a.board a.n a.jobs c.costs-first.result c.costs-second.result (search rules) c.costs-first.ensures c.costs-second.ensures in
+    let refused = rw c.in-Refused.is at c.check.ensures in
+    rw (← e, ← refused)
 
 pub returns-in-Legal : goal.returns-in-Legal
 returns-in-Legal c =
@@ -63,4 +64,5 @@ returns-in-Legal c =
     let two =
     kept-sub c.less-in-Legal.ensures c.room-in-Legal.ensures (s.there ∙ home-there js) (omega (arith, room_most Second lawful))
     (omega (arith, s.there, s.small-there, home-there js)) in
-    rw (← same a.board a.n a.jobs c.costs-first.result c.costs-second.result (search rules) c.costs-first.ensures c.costs-second.ensures, legal, one, two)
+    let e = same a.board a.n a.jobs c.costs-first.result c.costs-second.result (search rules) c.costs-first.ensures c.costs-second.ensures in
+    rw (← e, legal, one, two)

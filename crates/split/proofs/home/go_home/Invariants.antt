@@ -7,8 +7,8 @@ use Rattle.split.proofs.home.go_home.Given as goal
 
 abbrev pub invariant-loop-i : goal.invariant-loop-i
 invariant-loop-i l =
-    (l.i ≤ l.n) × (length l.s1 ≡ length l.initial.s1) × (length l.s2 ≡ length l.initial.s2) × (l.here ≤ l.i * word_most) × (l.there ≤ l.i * word_most) ×
-    GoneHome l.i l.first l.second l.initial.s1 l.initial.s2 l.s1 l.s2 (record { here = l.here; there = l.there })
+    (l.i ≤ l.n) × (length l.s1 ≡ length l.initial.s1) × (length l.s2 ≡ length l.initial.s2) × (l.here ≤ l.i * word_most)
+    × (l.there ≤ l.i * word_most) × GoneHome l.i l.first l.second l.initial.s1 l.initial.s2 l.s1 l.s2 (record { here = l.here; there = l.there })
 
 abbrev pub decreases-loop-i : goal.decreases-loop-i
 decreases-loop-i l = l.n - l.i

@@ -8,7 +8,8 @@ use Rattle.split.proofs.home.home_ticks.Given as goal
 
 abbrev pub invariant-loop-i : goal.invariant-loop-i
 invariant-loop-i l =
-    (l.i ≤ l.n) × (l.here ≤ l.i * word_most) × (l.there ≤ l.i * word_most) × Summed (home_rows First (jobs_in l.i l.first l.second)) (record { here = l.here; there = l.there })
+    (l.i ≤ l.n) × (l.here ≤ l.i * word_most) × (l.there ≤ l.i * word_most)
+    × Summed (home_rows First (jobs_in l.i l.first l.second)) (record { here = l.here; there = l.there })
 
 abbrev pub decreases-loop-i : goal.decreases-loop-i
 decreases-loop-i l = l.n - l.i

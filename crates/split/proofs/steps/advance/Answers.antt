@@ -12,8 +12,8 @@ use Rattle.split.proofs.steps.OneStep.{moved-fits}
 use Rattle.split.proofs.steps.advance.Goals as goal
 
 -- Where the row goes: within the window, and so within two bytes.
-within : {w room all near far : ℕ} {to : Ends} → w ≤ window_most → Asks w room all (both_row true near far) → to ≡ end_of (gone_to w room all near far)
-    → (to.keep ≤ window_most) × (to.give ≤ window_most)
+within : {w room all near far : ℕ} {to : Ends} → w ≤ window_most → Asks w room all (both_row true near far)
+    → to ≡ end_of (gone_to w room all near far) → (to.keep ≤ window_most) × (to.give ≤ window_most)
 within few asks is =
     let fits = moved-fits _ _ _ _ asks.row asks.among asks.over in
     rw is (omega (arith, fits.0, asks.row.fits), omega (arith, fits.1))

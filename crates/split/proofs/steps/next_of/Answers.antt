@@ -18,4 +18,5 @@ loop-i-preserved c =
     let a = c.args in
     let l = c.loop-i in
     let e = c.better_of-found.ensures in
-    (omega arith, e.1, λ h t. e.0 ∙ ap (λ (x : Best). better_of x l.i (at a.near.now l.i) (at a.far.now l.i)) (l.invariant.2 h t) ∙ best-more a.n a.near.now a.far.now h t l.i)
+    let next : Best → Best = λ x. better_of x l.i (at a.near.now l.i) (at a.far.now l.i) in
+    (omega arith, e.1, λ h t. e.0 ∙ ap next (l.invariant.2 h t) ∙ best-more a.n a.near.now a.far.now h t l.i)
