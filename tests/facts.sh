@@ -1,5 +1,5 @@
 #!/usr/bin/env bash
-# The program `facts`, as built by `rt check`: the starting balance and the moves, or the refusal, of some sets; and that it never says `lent wrong`,
+# The program `facts`, as built by `rt ci`: the starting balance and the moves, or the refusal, of some sets; and that it never says `lent wrong`,
 # which it would where the lent call kept to other rows, or gave other moves, than it should. First a table: a row is a set's lines and the lines to
 # be said of it. Then many texts, of which the independent planner says the same.
 set -u -o pipefail
@@ -58,7 +58,7 @@ is 'full output' "$status" '' $'facts: the answer cannot be written\n'
 # compared LEAST FAMILY..: the independent planner says the same of each text of a family, of which there are some at the least.
 compared() {
     local counts
-    counts=$(independent/target/release/independent compare-facts "${@:2}" -- "${loader[@]}" target/bin/facts) || { bad=1 && return; }
+    counts=$(independent/target/release/independent compare-facts "${@:2}" -- "${loader[@]}" "$(program_file facts)") || { bad=1 && return; }
     [[ $counts =~ ^texts\ ([0-9]+) ]] && [ "${BASH_REMATCH[1]}" -ge "$1" ] || { echo "${*:2}: fewer than $1 texts" && bad=1 && return; }
     seen=$((seen + BASH_REMATCH[1]))
 }

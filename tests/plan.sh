@@ -1,5 +1,5 @@
 #!/usr/bin/env bash
-# The program `plan` itself, as built by `rt check`: what it answers to whole, cut, long and slow inputs; that it never answers for a part of an input
+# The program `plan` itself, as built by `rt ci`: what it answers to whole, cut, long and slow inputs; that it never answers for a part of an input
 # which it could not read to its end; that it says so on standard error where its input cannot be read or its answer cannot be written; and that
 # it ends and does no harm where it is interrupted or killed half-way. tests/c/streams.c stands before the C library in some of the cases.
 set -u -o pipefail

@@ -25,7 +25,7 @@ tables=$((2 * (64 * 8 + 94 * 8)))
 for entry in plan tick pack packed_tick; do
     within "clampfern_$entry" target/c/window "clampfern_$entry" 0
 done
-within planner::plan target/bin/facts facts::plan_over_marks "$tables"
+within planner::plan "$(program_file facts)" facts::plan_over_marks "$tables"
 promised=$(header_number STACK_MOST)
 [ "$promised" = "$most" ] || { echo "the header promises '$promised' bytes of stack, and not $most" && bad=1; }
 [ "$bad" != 0 ] || echo "$report"

@@ -1,6 +1,6 @@
 #!/usr/bin/env bash
 # The tick handler says what the independent one says: its C entries of many tables, right and wrong ones, each asked for a core at a tick by its
-# lines and by its packed bytes (tests/c/ticks.c), and the program `window`, as built by `rt check`, of whole windows. Then a program in C plans
+# lines and by its packed bytes (tests/c/ticks.c), and the program `window`, as built by `rt ci`, of whole windows. Then a program in C plans
 # stored sets, runs a window of each, and adds up the ticks of each job (tests/c/window.c). The tables are the same in each run; SEED and COUNT in
 # the environment choose others.
 set -u -o pipefail
@@ -28,7 +28,7 @@ for answer in named idle 1: 2: 8: 9: 10: 11: 12: 13:; do
 done
 
 # a text with a long window is left out here
-windows=$($independent compare-window lines "$seed" 2000 -- "${loader[@]}" target/bin/window) || exit 1
+windows=$($independent compare-window lines "$seed" 2000 -- "${loader[@]}" "$(program_file window)") || exit 1
 at_least 1500 texts "$windows"
 at_least 500 accepted "$windows"
 at_least 500 refused "$windows"

@@ -38,6 +38,11 @@ header_number() {
     sed -nE "s/^#define CLAMPFERN_$1 ([0-9]+)( .*)?$/\1/p" include/clampfern.h
 }
 
+# program_file NAME: where `rt ci` leaves a program.
+program_file() {
+    echo "crates/$1/out/$1"
+}
+
 # compile WORD..: from C.
 compile() {
     find_compilers && mkdir -p target/c && quietly $cc -std=c11 -O2 -Wall -Wextra -Werror "$@"
@@ -46,7 +51,7 @@ compile() {
 # static_library: writes target/staticlib/libclampfern.a, the archive of crate clampfern_c, where it is not newer than every source already.
 static_library() {
     local library=target/staticlib/libclampfern.a
-    [ -e $library ] && [ -z "$(find crates crates.txt -path '*/out' -prune -o -newer $library -print -quit)" ] && return
+    [ -e $library ] && [ -z "$(find crates crates.txt -path '*/out' -prune -o -type f -newer $library -print -quit)" ] && return
     (cd crates/clampfern_c && quietly rt lib) && mkdir -p target/staticlib && cp crates/clampfern_c/out/libclampfern_c.a $library
 }
 
