@@ -1,4 +1,4 @@
--- `reader::digits_end` meets its contract. The loop's invariant: the digits from here on end where those from the start do. Assumes nothing.
+-- `reader::digits_end` meets its contract: a turn passes one digit more, and the digits are over where none is. Assumes nothing.
 use mathlib.Core.Path.{ap}
 use Prim.Native.Nat.{◌≤◌, ◌<◌}
 use native.Mathlib.Omega.{arith}

@@ -1,4 +1,4 @@
--- `reader::put_costs` meets its contract. The invariant: the costs passed are in the column, and the others are as they were. Assumes nothing.
+-- `reader::put_costs` meets its contract: a turn stores one cost more. Assumes nothing.
 use native.Mathlib.Omega.{arith}
 use lib.ListN.{length-set}
 use Rattle.rows.specs.Upto.{at}

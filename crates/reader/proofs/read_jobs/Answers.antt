@@ -1,5 +1,4 @@
--- `reader::read_jobs` meets its contract. The loop's invariant is `Turn`: what the lines from here on give, put behind the jobs so far, is what
--- all lines give. Assumes nothing.
+-- `reader::read_jobs` meets its contract: a turn reads the line of one job more, or is refused by what that line says. Assumes nothing.
 use mathlib.Core.Path.{refl, sym, ap, ◌∙◌}
 use Prim.Native.Nat.{ℕ, ◌+◌, ◌≤◌, ◌<◌}
 use native.Mathlib.Omega.{arith}

@@ -1,5 +1,4 @@
--- `reader::run_of` meets its contract. The loop's invariant: the number so far, with the digits that are left of those asked for, spells what
--- all of them spell and ends where they do, and it is below 16 to the power of the digits that were read. Assumes nothing.
+-- `reader::run_of` meets its contract: a turn reads one digit more, whose number fits, and the run is over where no digit is left. Assumes nothing.
 use mathlib.Core.List.{List, [], ◌∷◌}
 use mathlib.Core.Path.{◌≡◌, ap}
 use Prim.Native.Nat.{ℕ, zero, suc, ◌+◌, ◌-◌, ◌*◌, ◌^◌, ◌≤◌, ◌<◌}

@@ -1,5 +1,4 @@
--- `text::writer::put_line` meets its contract. The invariant: the line of the bytes that are left, stored from here, makes the text that the
--- whole line makes. The measure is the bytes that are left. Assumes nothing.
+-- `text::writer::put_line` meets its contract: a turn stores one byte more of the line, and the last store is its line feed. Assumes nothing.
 use mathlib.Core.Path.{◌∙◌}
 use Prim.Native.Nat.{◌<◌, ◌≤◌}
 use native.Mathlib.Omega.{arith}

@@ -1,5 +1,4 @@
--- `text::writer::put_slices` meets its contract. The invariant: the lines of the rows that are left, stored from here, make the text that all lines
--- make. The measure is the rows that are left. Assumes nothing.
+-- `text::writer::put_slices` meets its contract: a turn stores one line more, and at the end none is left. Assumes nothing.
 use mathlib.Core.Path.{◌≡◌, ◌∙◌}
 use mathlib.Core.List.{List, map}
 use Prim.Native.Nat.{ℕ, ◌+◌, ◌<◌}
