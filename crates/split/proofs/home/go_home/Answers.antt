@@ -29,5 +29,5 @@ loop-i-preserved c =
       omega arith,
       omega arith,
       home-more x.i a.first.now a.second.now x.here x.there _ c.at_home-to.ensures (omega arith) (omega arith) a.s1.now a.s2.now x.s1 x.s2 (omega arith)
-      (omega arith) x.invariant.5,
+          (omega arith) x.invariant.5,
     )
