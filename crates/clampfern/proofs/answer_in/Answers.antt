@@ -1,11 +1,12 @@
 -- `clampfern::answer_in` meets its contract: the columns that it owns are long enough for every set, so what was planned has the lines of its plan.
 -- Assumes nothing.
+use native.Mathlib.Omega.{arith}
 use Rattle.rows.proofs.Upto.{upto-length}
 use Rattle.clampfern.proofs.Lines.{columns-planned, columns-place}
 use Rattle.clampfern.proofs.answer_in.Goals as goal
 
 pub write_refused-requires : goal.write_refused-requires
-write_refused-requires c = columns-place c.plan_columns-planned.ensures (upto-length _ _) c.in-Refused.is
+write_refused-requires c = omega (arith, columns-place c.plan_columns-planned.ensures (upto-length _ _) c.in-Refused.is)
 
 pub returns-in-Plan : goal.returns-in-Plan
 returns-in-Plan c = rw (← (columns-planned c.plan_columns-planned.ensures (upto-length _ _) c.in-Plan.is)) c.write_plan.ensures
