@@ -1,7 +1,6 @@
 -- `columns::plan_columns` meets its contract: shares that are given can be placed, and all ways give what the definition does.
 -- Assumes nothing.
 use mathlib.Core.Path.{◌≡◌, sym, ap, subst, ◌∙◌}
-use mathlib.Core.List.{List}
 use Prim.Native.Nat.{◌≤◌}
 use native.Mathlib.Omega.{arith}
 use borrow.Author.Rules.{rules}

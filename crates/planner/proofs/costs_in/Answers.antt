@@ -9,4 +9,5 @@ pub loop-i-preserved : goal.loop-i-preserved
 loop-i-preserved c =
     let a = c.args in
     let x = c.loop-i in
-    (omega arith, rw (c.cost-cost.ensures, x.invariant.1) (fill_one (cost_on a.kind) a.jobs.now jobs_most x.i 0 (job_both 0 0) (omega arith) (omega arith)))
+    let one = fill_one (cost_on a.kind) a.jobs.now jobs_most x.i 0 (job_both 0 0) (omega arith) (omega arith) in
+    (omega arith, rw (c.cost-cost.ensures, x.invariant.1) one)

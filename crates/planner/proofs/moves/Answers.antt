@@ -19,4 +19,5 @@ returns c =
     let full : length t.result.slices ≡ slices_most = search rules in
     let same : shares_of a.board a.n (jobs_in a.n c.costs-first.result c.costs-second.result) ≡ shares_of a.board a.n (take a.n a.jobs) =
     rw (c.costs-first.ensures, c.costs-second.ensures) (shares-costs a.board a.n a.jobs all) in
-    moves-promised a.board a.n _ (take a.n a.jobs) t.result _ _ same t.ensures (omega (arith, t.ensures.few-slices)) c.rows_of-rows.ensures c.moves_below-moves.ensures
+    moves-promised a.board a.n _ (take a.n a.jobs) t.result _ _ same t.ensures (omega (arith, t.ensures.few-slices)) c.rows_of-rows.ensures
+    c.moves_below-moves.ensures

@@ -13,7 +13,9 @@ pub loop-i-preserved : goal.loop-i-preserved
 loop-i-preserved c =
     let a = c.args in
     let x = c.loop-i in
-    (omega arith, rw (c.moves_of-of_job.ensures, x.invariant.1) (upto-fill (moves_of (take a.sliced a.rows)) (replicate jobs_most no_moves) x.i (omega (arith, length-replicate jobs_most no_moves))))
+    let there = length-replicate jobs_most no_moves in
+    let one = upto-fill (moves_of (take a.sliced a.rows)) (replicate jobs_most no_moves) x.i (omega arith) in
+    (omega arith, rw (c.moves_of-of_job.ensures, x.invariant.1) one)
 
 pub returns : goal.returns
 returns c =

@@ -8,4 +8,5 @@ use Rattle.planner.proofs.plan_tables.Goals as goal
 pub returns : goal.returns
 returns c =
     let a = c.args in
-    tables-filled a.board a.n _ a.share_rows a.slice_rows _ _ _ (upto-length a.n _) refl refl refl _ _ _ _ _ c.plan_columns-planned.ensures c.fit-fitted.ensures
+    tables-filled a.board a.n _ a.share_rows a.slice_rows _ _ _ (upto-length a.n _) refl refl refl _ _ _ _ _ c.plan_columns-planned.ensures
+    c.fit-fitted.ensures

@@ -11,7 +11,8 @@ pub loop-i-preserved : goal.loop-i-preserved
 loop-i-preserved c =
     let a = c.args in
     let x = c.loop-i in
-    (omega arith, rw (c.share_of.ensures, x.invariant.1) (upto-fill (λ k. row_of (share (at a.first k) (at a.second k))) a.table.now x.i (omega arith)))
+    let one = upto-fill (λ k. row_of (share (at a.first k) (at a.second k))) a.table.now x.i (omega arith) in
+    (omega arith, rw (c.share_of.ensures, x.invariant.1) one)
 
 pub returns : goal.returns
 returns c =

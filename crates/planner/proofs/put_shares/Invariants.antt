@@ -1,7 +1,7 @@
 -- `planner::put_shares` meets its contract. The invariant: the first i rows of the table are made of the two columns, and the others are as they
 -- were. Assumes nothing.
 use mathlib.Core.Path.{◌≡◌}
-use mathlib.Core.List.{◌++◌, map}
+use mathlib.Core.List.{◌++◌}
 use Prim.Native.Nat.{◌-◌, ◌≤◌}
 use lib.ListN.{drop}
 use Rattle.rows.specs.Upto.{upto, at}

@@ -24,4 +24,5 @@ returns c =
     let x = c.loop-i in
     let end : x.i ≡ slices_most = omega arith in
     let full : length a.slices ≡ slices_most = search rules in
-    rw (x.invariant.1, end, slices-take slices_most a.slices (omega arith), take_all slices_most (map slice_in a.slices) (omega (arith, length-map a.slices slice_in)))
+    let all = take_all slices_most (map slice_in a.slices) (omega (arith, length-map a.slices slice_in)) in
+    rw (x.invariant.1, end, slices-take slices_most a.slices (omega arith), all)

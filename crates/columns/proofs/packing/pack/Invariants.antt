@@ -9,7 +9,9 @@ use Rattle.columns.proofs.packing.pack.Given as goal
 
 abbrev pub invariant-loop-i : goal.invariant-loop-i
 invariant-loop-i l =
-    (l.i ≤ l.n) × (length l.slices ≡ length l.initial.slices) × Passing l.class l.kind l.w l.n l.mine l.other (left l.class l.kind l.w l.n l.mine l.other (filling_of l.w l.initial.slices l.initial.p) 0) l.slices l.p l.i
+    (l.i ≤ l.n) × (length l.slices ≡ length l.initial.slices)
+    × Passing l.class l.kind l.w l.n l.mine l.other (left l.class l.kind l.w l.n l.mine l.other (filling_of l.w l.initial.slices l.initial.p) 0)
+    l.slices l.p l.i
 
 abbrev pub decreases-loop-i : goal.decreases-loop-i
 decreases-loop-i l = l.n - l.i
