@@ -13,7 +13,6 @@ use native.Mathlib.Omega.{arith}
 use borrow.Author.Tests.{leb-true, leb-false}
 use lib.Dec.{leb}
 use lib.ListN.{length}
-use Rattle.rows.specs.Upto.{at}
 use Rattle.rows.proofs.Never.{never}
 use Rattle.rows.proofs.Tells.{Tells, holds, fails, less-tells, most-tells, equal-tells, or-tells, and-tells, alike-tells}
 use Rattle.model.specs.Board.{cores_of, same_kind}
