@@ -3,12 +3,12 @@
 use mathlib.Core.Bool.{Bool, true, false, cond, ◌&&◌, ◌||◌}
 use mathlib.Core.List.{List, [], ◌∷◌}
 use mathlib.Core.Path.{◌≡◌, refl, sym, ◌∙◌}
-use Prim.Native.Nat.{ℕ, ◌+◌, ◌-◌, ◌*◌, ◌%◌, ◌≤◌, ◌<◌}
+use Prim.Native.Nat.{ℕ, ◌+◌, ◌*◌, ◌≤◌}
 use native.Mathlib.Nat.{add-zero}
 use native.Mathlib.Omega.{arith}
-use borrow.Author.Tests.{ltb-true, ltb-false, ne_eqb, eqb-true}
+use borrow.Author.Tests.{eqb-true}
 use lib.Dec.{eqb, leb, ltb}
-use lib.ListN.{length, take, drop, length-take}
+use lib.ListN.{length, take, drop}
 use Rattle.rows.specs.Upto.{at}
 use Rattle.rows.proofs.Upto.{upto-part}
 use Rattle.rows.proofs.Never.{never}
@@ -18,7 +18,6 @@ use Rattle.text.specs.Hex.{number_from, number_in}
 use Rattle.text.specs.Records.{board_form, slice_form, size_of, board_in}
 use Rattle.handler.specs.Running.{is_at}
 use Rattle.packed.specs.Packed.{is_slice, slice_of}
-use Rattle.packed.specs.Asking.{is_headed}
 
 -- Two bytes, the high one first.
 abbrev pair_of : (high low : ℕ) → ℕ
@@ -45,28 +44,10 @@ kind-is true k h = go (eqb k 2) refl (eqb k 1) refl h
     go false e true f h = sym (eqb-true k 1 f)
     go false e false f h = never (cc)
 
-module _ (bytes : List ℕ) where
-  pub head-short : length bytes < size_of board_form → is_headed bytes ≡ false
-  head-short few = rw (ne_eqb (length (take 5 bytes)) 5 (λ e. omega (arith, length-take 5 bytes))) (go (eqb (at (take 5 bytes) 0) 1))
-    where
-      go : (t : Bool) → (t && false) && eqb ((length bytes - 5) % 8) 0 ≡ false
-      go true = refl
-      go false = refl
-
-  pub headed-long : is_headed bytes ≡ true → size_of board_form ≤ length bytes
-  headed-long headed = go (ltb (length bytes) 5) refl
-    where
-      go : (t : Bool) → ltb (length bytes) 5 ≡ t → 5 ≤ length bytes
-      go true e = never (cc (head-short (ltb-true _ _ e)))
-      go false e = ltb-false _ _ e
-
-  module _ (enough : size_of board_form ≤ length bytes) where
-    pub head-is : is_headed bytes ≡ eqb (at bytes 0) 1 && eqb ((length bytes - 5) % 8) 0
-    head-is = rw (upto-part 5 0 bytes enough) (and-true (eqb (at bytes 0) 1) _)
-
-    pub board-is : board_in (take (size_of board_form) bytes)
-        ≡ record { window = pair_of (at bytes 1) (at bytes 2); first = at bytes 3; second = at bytes 4 }
-    board-is = rw (upto-part 5 0 bytes enough, pair_is, byte-is (at bytes 3), byte-is (at bytes 4))
+module _ (bytes : List ℕ) (enough : size_of board_form ≤ length bytes) where
+  pub board-is : board_in (take (size_of board_form) bytes)
+      ≡ record { window = pair_of (at bytes 1) (at bytes 2); first = at bytes 3; second = at bytes 4 }
+  board-is = rw (upto-part 5 0 bytes enough, pair_is, byte-is (at bytes 3), byte-is (at bytes 4))
 
 module _ (bytes : List ℕ) (from : ℕ) (fits : from + size_of slice_form ≤ length bytes) where
   abbrev row : List ℕ

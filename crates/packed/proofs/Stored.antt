@@ -1,28 +1,25 @@
 -- Packed bytes that are stored one behind the other, and what packing owes at each of its ends.
---   record-more     one more byte of a record
 --   rows_more       one more record of the rows
 --   packed-stored   the board's record, then those of the rows
 --   table-size      how many bytes a table takes
 --   checked-board   the board of a table that can be run has passed its checks
---   pack-refused, pack-short, pack-all   a table that is refused, bytes that are too few, and bytes that are not
+--   pack-short, pack-all   bytes that are too few for a table that can be run, and bytes that are not
 -- Assumes nothing.
 use mathlib.Core.Bool.{true, false}
 use mathlib.Core.List.{List, ◌∷◌}
 use mathlib.Core.Path.{◌≡◌, sym, ◌∙◌}
 use Prim.Native.Nat.{ℕ, ◌+◌, ◌*◌, ◌≤◌, ◌<◌}
-use native.Mathlib.Nat.{zero-add, add-suc}
-use native.Mathlib.Numerals.{add-one}
+use native.Mathlib.Nat.{zero-add}
 use native.Mathlib.Omega.{arith}
 use borrow.Author.Tests.{lt-ltb, le-ltb}
 use lib.Dec.{ltb}
-use lib.ListN.{length, drop, get_or, set}
-use lib.Seq.{sets, sets-eq, drop-cons}
+use lib.ListN.{length}
+use lib.Seq.{sets, sets-eq}
 use Rattle.rows.specs.Upto.{at}
 use Rattle.rows.proofs.Upto.{upto-length}
 use Rattle.model.specs.Packed.{slice_in, slices_in}
-use Rattle.model.specs.Refusal.{given, says_refusal}
+use Rattle.model.specs.Refusal.{given}
 use Rattle.model.specs.declared.Board.{Board}
-use Rattle.model.specs.declared.Refusal.{Refusal}
 use Rattle.model.specs.declared.Refusal.TheVariants.{TooShort}
 use Rattle.model.specs.declared.Slice.{Slice}
 use Rattle.legal.proofs.CheckByCheck.{Passed}
@@ -36,10 +33,6 @@ use Rattle.packed.specs.Packed.{board_record, records_of, packed_of, Packs}
 use Rattle.packed.proofs.Same.{packed-size}
 
 module _ (t : List ℕ) (to : ℕ) where
-  pub record-more : (bs : List ℕ) (i : ℕ) → i < length bs
-      → sets (set t (to + i) (get_or bs i 0)) (to + (i + 1)) (drop (i + 1) bs) ≡ sets t (to + i) (drop i bs)
-  record-more bs i more = rw (add-one, add-suc, drop-cons bs i 0)
-
   pub rows_more : (s : Slice) (rows : List Slice)
       → sets (sets t to (slice_record s)) (to + size_of slice_form) (records_of rows) ≡ sets t to (records_of (s ∷ rows))
   rows_more s rows = sym (sets-append t to (slice_record s) (records_of rows))
@@ -58,19 +51,15 @@ module _ (board : Board) (xs : List ℕ) where
   pub table-size : length new ≡ size_of board_form + size_of slice_form * length xs
   table-size = omega (arith, packed-size board (slices_in (length xs) xs), upto-length (length xs) (λ i. slice_in (at xs i)))
 
-  module _ (before : List ℕ) where
-    pub pack-refused : (r : Refusal) → says_refusal r ≡ check_of board xs → Packs board xs before before (Refused r)
-    pack-refused r is = record { says = rw (← is); bytes = rw (← is) }
+  module _ (before : List ℕ) (is : given tt ≡ check_of board xs) where
+    pub pack-short : length before < size_of board_form + size_of slice_form * length xs → Packs board xs before before (Refused TooShort)
+    pack-short few =
+        let tested : ltb (length before) (length new) ≡ true = lt-ltb (length before) (length new) (rw table-size few) in
+        record { says = rw (← is, tested); bytes = rw (← is, tested) }
 
-    module _ (is : given tt ≡ check_of board xs) where
-      pub pack-short : length before < size_of board_form + size_of slice_form * length xs → Packs board xs before before (Refused TooShort)
-      pack-short few =
-          let tested : ltb (length before) (length new) ≡ true = lt-ltb (length before) (length new) (rw table-size few) in
-          record { says = rw (← is, tested); bytes = rw (← is, tested) }
-
-      pub pack-all : size_of board_form + size_of slice_form * length xs ≤ length before
-          → Packs board xs before (sets before 0 new) (Bytes (size_of board_form + size_of slice_form * length xs))
-      pack-all fits =
-          let room : length new ≤ length before = rw table-size fits in
-          let tested : ltb (length before) (length new) ≡ false = le-ltb _ _ room in
-          record { says = rw (← is, tested, table-size); bytes = rw (← is, tested) (sets-eq new before 0 (rw zero-add room) ∙ rw zero-add) }
+    pub pack-all : size_of board_form + size_of slice_form * length xs ≤ length before
+        → Packs board xs before (sets before 0 new) (Bytes (size_of board_form + size_of slice_form * length xs))
+    pack-all fits =
+        let room : length new ≤ length before = rw table-size fits in
+        let tested : ltb (length before) (length new) ≡ false = le-ltb _ _ room in
+        record { says = rw (← is, tested, table-size); bytes = rw (← is, tested) (sets-eq new before 0 (rw zero-add room) ∙ rw zero-add) }
