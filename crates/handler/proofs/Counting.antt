@@ -27,7 +27,8 @@ use Rattle.handler.proofs.Tests.{kinds-tell, Clear}
 
 pub parts-window : (w cores jobs : ℕ) (rests : (tick core : ℕ) → ℕ) (ran : (job tick core : ℕ) → ℕ)
     → ((tick core : ℕ) → tick < w → core < cores → rests tick core + sum_below jobs (λ (job : ℕ). ran job tick core) ≡ 1)
-    → sum_below w (λ (tick : ℕ). sum_below cores (rests tick)) + sum_below jobs (λ (job : ℕ). sum_below w (λ (tick : ℕ). sum_below cores (ran job tick)))
+    → sum_below w (λ (tick : ℕ). sum_below cores (rests tick))
+    + sum_below jobs (λ (job : ℕ). sum_below w (λ (tick : ℕ). sum_below cores (ran job tick)))
     ≡ cores * w
 parts-window w cores jobs rests ran one =
     omega (

@@ -89,7 +89,8 @@ module _ {board : Board} {ss : List Ticks} {rows : List Slice} {table : List ℕ
       asked-window t kind job l
 
   idle-window : (kind : Kind)
-      → times_idle board said kind + sum_below (length ss) (λ (job : ℕ). ticks_on kind (get_or ss job (share 0 0))) ≡ cores_of board kind * board.window
+      → times_idle board said kind + sum_below (length ss) (λ (job : ℕ). ticks_on kind (get_or ss job (share 0 0)))
+      ≡ cores_of board kind * board.window
   idle-window kind =
       omega (
         arith,
@@ -164,7 +165,8 @@ module _ {board : Board} {js : List Job} {ss ss' : List Share} {ls ls' : List Sl
   lent-table-runs = table-passes (lent-tabled planned)
 
   module _ (said : (tick kind core : ℕ) → Named) (says : Answered board (map pack_of (take slices ls')) said) where
-    pub lent-over-a-window : (kind : Kind) (job : ℕ) → job < jobs → times_named board said kind job ≡ ticks_on kind (ticks_of_row (get_or ss' job no_share))
+    pub lent-over-a-window : (kind : Kind) (job : ℕ) → job < jobs
+        → times_named board said kind job ≡ ticks_on kind (ticks_of_row (get_or ss' job no_share))
     lent-over-a-window kind job l =
         named-window (lent-tabled planned) said says kind job (omega (arith, lent-counts planned)) ∙ lent-share planned kind job l
 

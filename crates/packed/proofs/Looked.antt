@@ -66,7 +66,8 @@ module _ (bytes : List ℕ) where
 
     -- One row more, in front of those that were looked at.
     pub looked-on : (i n : ℕ) (answer later : Answer Running) → n ≡ i + 1 → i < count_in bytes → is_slice (row_bytes bytes i) ≡ true → Looked n later
-        → answer ≡ cond (is_at tick kind core (slice_of (row_bytes bytes i))) (given (runs (slice_of (row_bytes bytes i)).job)) later → Looked i answer
+        → answer ≡ cond (is_at tick kind core (slice_of (row_bytes bytes i))) (given (runs (slice_of (row_bytes bytes i)).job)) later
+        → Looked i answer
     unfolding running_in
     looked-on i n answer later next there is looked says =
         (rw left (go (is_at tick kind core (slice_of (row_bytes bytes i))) (says ∙ rw (looked.0, next))), each)
@@ -88,19 +89,19 @@ module _ (bytes : List ℕ) where
             at-k false h = let same : k ≡ i = omega (arith, ltb-false i k h) in rw same is
 
     -- All rows, with the code's board and its flag for 11.
-    module _ (answer : Answer Running) (looked : Looked 0 answer) {b : Board} (same : b ≡ board) {flag : Bool} (says : flag ≡ is_beyond b tick kind core)
-      where
-        all-slices : are_slices bytes ≡ true
-        all-slices = slices-are (λ i l. looked.1 i (omega arith) l)
+    module _ (answer : Answer Running) (looked : Looked 0 answer) {b : Board} (same : b ≡ board) {flag : Bool}
+        (says : flag ≡ is_beyond b tick kind core) where
+      all-slices : are_slices bytes ≡ true
+      all-slices = slices-are (λ i l. looked.1 i (omega arith) l)
 
-        flag_is : is_beyond board tick kind core ≡ flag
-        flag_is = ap (λ (x : Board). is_beyond x tick kind core) (sym same) ∙ sym says
+      flag_is : is_beyond board tick kind core ≡ flag
+      flag_is = ap (λ (x : Board). is_beyond x tick kind core) (sym same) ∙ sym says
 
-        pub looked-beyond : flag ≡ true → refused 11 0 ≡ rows_asked bytes tick kind core
-        looked-beyond is = rw (all-slices, flag_is, is)
+      pub looked-beyond : flag ≡ true → refused 11 0 ≡ rows_asked bytes tick kind core
+      looked-beyond is = rw (all-slices, flag_is, is)
 
-        pub looked-all : flag ≡ false → answer ≡ rows_asked bytes tick kind core
-        looked-all is = rw (all-slices, flag_is, is) looked.0
+      pub looked-all : flag ≡ false → answer ≡ rows_asked bytes tick kind core
+      looked-all is = rw (all-slices, flag_is, is) looked.0
 
     -- Bytes with no such head, and those with one.
     pub asked-not : is_headed bytes ≡ false → refused 9 0 ≡ packed_asked bytes tick kind core

@@ -98,7 +98,8 @@ module _ (board : Board) (rows : List Slice) where
     abbrev by : Board → List Slice → Answer Running
     by b rs = cond (is_beyond b tick kind core) (refused 11 0) (given (running_in tick kind core rs))
 
-    pub packed-back : packed_asked bytes tick kind core ≡ cond (is_beyond board tick kind core) (refused 11 0) (given (running_in tick kind core rows))
+    pub packed-back : packed_asked bytes tick kind core
+        ≡ cond (is_beyond board tick kind core) (refused 11 0) (given (running_in tick kind core rows))
     packed-back = rw is-packed (ap (λ (b : Board). by b (rows_in bytes)) board-back ∙ ap (λ (rs : List Slice). by board rs) rows_back)
 
 -- ---- of a table that can be run

@@ -8,7 +8,8 @@ use Rattle.packed.proofs.put_record.Given as goal
 
 abbrev pub invariant-loop-i : goal.invariant-loop-i
 invariant-loop-i l =
-    (l.i ≤ length l.bytes) × (length l.table ≡ length l.initial.table) × (sets l.table (l.to + l.i) (drop l.i l.bytes) ≡ sets l.initial.table l.to l.bytes)
+    (l.i ≤ length l.bytes) × (length l.table ≡ length l.initial.table)
+    × (sets l.table (l.to + l.i) (drop l.i l.bytes) ≡ sets l.initial.table l.to l.bytes)
 
 abbrev pub decreases-loop-i : goal.decreases-loop-i
 decreases-loop-i l = length l.bytes - l.i

@@ -12,7 +12,8 @@ use Rattle.packed.proofs.put_rows.Given as goal
 abbrev pub invariant-loop-i : goal.invariant-loop-i
 invariant-loop-i l =
     (l.i ≤ length l.rows) × (l.to ≡ size_of board_form + size_of slice_form * l.i) × (length l.table ≡ length l.initial.table)
-    × (sets l.table l.to (records_of (drop l.i (slices_in (length l.rows) l.rows))) ≡ sets l.initial.table (size_of board_form) (records_of (slices_in (length l.rows) l.rows)))
+    × (sets l.table l.to (records_of (drop l.i (slices_in (length l.rows) l.rows)))
+    ≡ sets l.initial.table (size_of board_form) (records_of (slices_in (length l.rows) l.rows)))
 
 abbrev pub decreases-loop-i : goal.decreases-loop-i
 decreases-loop-i l = length l.rows - l.i
