@@ -20,14 +20,14 @@ written='pub extern "C" fn clampfern_pack(lines: &[u8], table: &mut [u8]) -> usi
 pub extern "C" fn clampfern_packed_tick(table: &[u8], tick: u32, kind: u32, core: u32) -> u32
 pub extern "C" fn clampfern_plan(text: &[u8], out: &mut [u8]) -> usize
 pub extern "C" fn clampfern_tick(lines: &[u8], tick: u32, kind: u32, core: u32) -> u32'
-entries=$(grep -rh_e --include='*.rt' 'extern[[:space:]]+"' crates | LC_ALL=C sort)
+entries=$(grep -rhE --include='*.rt' 'extern[[:space:]]+"' crates | LC_ALL=C sort)
 [ "$entries" = "$written" ] || wrong "the sources have these entries: $entries"
 
 # What the header declares and defines by itself: the standard's headers are empty here.
 mkdir "$temporary/empty" && touch "$temporary/empty/stddef.h" "$temporary/empty/stdint.h"
 alone=("$cc" -std=c11 -E -P -nostdinc -I "$temporary/empty")
 declared=$("${alone[@]}" "$header") || wrong "$header does not go through the preprocessor"
-functions=$(grep -o_e '[A-Za-z0-9_]+[[:space:]]*\(' <<<"$declared" | tr -d ' (' | LC_ALL=C sort)
+functions=$(grep -oE '[A-Za-z0-9_]+[[:space:]]*\(' <<<"$declared" | tr -d ' (' | LC_ALL=C sort)
 [ "$functions" = "$(sed -E 's/.* fn ([a-z0-9_]+)\(.*/\1/' <<<"$entries")" ] || wrong "$header declares these functions: $functions"
 
 # The header's limits and codes: each with its value by constants of the sources, and its definition (a dash: it is a sum over others, or a promise
@@ -52,7 +52,7 @@ numbers() {
         [[ $value =~ ^(proved_[A-Z0-9_]+|[0-9 +*()-])+$ ]] || continue
         [ -z "${!name:-}" ] || { echo "${name#proved_} has two values" && return 1; } >&2
         local "$name=$value"
-    done < <(sed 's,//.*,,' crates/{model,text,kernel,clampfern}/src/*.rt | tr '\n' ' ' | grep -o_e 'const [A-Z0-9_]+: (usize|u32) = [^;]+;' |
+    done < <(sed 's,//.*,,' crates/{model,text,kernel,clampfern}/src/*.rt | tr '\n' ' ' | grep -oE 'const [A-Z0-9_]+: (usize|u32) = [^;]+;' |
         sort -u | sed -E 's/^const ([A-Z0-9_]+): [a-z0-9]+ = (.*);$/\1 \2/; s/[a-z_]+:://g; s/([0-9])_([0-9])/\1\2/g; s/[A-Z][A-Z0-9_]*/proved_&/g')
     while read -r name value definition; do
         value=$(sed -E 's/[A-Z_]+/proved_&/g' <<<"$value")
@@ -67,21 +67,21 @@ numbers() {
         echo "$name $value"
     done <<<"${limits#$'\n'}"
     # the arms of the function `number`, of which TooShort is REFUSAL_TOO_SHORT
-    sed -n '/^pub fn number(/,/^}/p' crates/model/src/lib.rt | sed -n_e 's/^ *Refusal::([A-Za-z]+)(\(_\))? => ([0-9]+),$/\1 \3/p' |
+    sed -n '/^pub fn number(/,/^}/p' crates/model/src/lib.rt | sed -nE 's/^ *Refusal::([A-Za-z]+)(\(_\))? => ([0-9]+),$/\1 \3/p' |
         sed -E 's/([a-z])([A-Z])/\1_\2/g; s/^[^ ]+/REFUSAL_\U&/'
 }
 numbers >"$temporary/numbers" || exit 1
 sed -E 's/(.*) (.*)/IS(\1, \2)/' "$temporary/numbers" >"$temporary/numbers.h"
 
 # Nothing of the header has another name. The stack is tests/stack.sh's.
-named=$("${alone[@]}" -d_m "$header" | sed -n_e 's/^#define (CLAMPFERN_[A-Z0-9_]+) ..*/\1/p' && grep -o_e 'CLAMPFERN_[A-Z0-9_]+' <<<"$declared")
+named=$("${alone[@]}" -dM "$header" | sed -nE 's/^#define (CLAMPFERN_[A-Z0-9_]+) ..*/\1/p' && grep -oE 'CLAMPFERN_[A-Z0-9_]+' <<<"$declared")
 more=$(LC_ALL=C comm -23 <(printf '%s\n' "${named//CLAMPFERN_/}" | LC_ALL=C sort) <(sed 's/ .*//; $a STACK_MOST' "$temporary/numbers" | LC_ALL=C sort))
 [ -z "$more" ] || wrong "$header has numbers that the sources have not: ${more//$'\n'/ }"
 
 # The page for readers in C has a row for each refusal.
 while read -r name number; do
     row="| $number | \`${name#REFUSAL_}\` |"
-    grep -q_f "$row" docs/REFUSALS.md || wrong "docs/REFUSALS.md has no row $row"
+    grep -qF "$row" docs/REFUSALS.md || wrong "docs/REFUSALS.md has no row $row"
 done < <(grep ^REFUSAL_ "$temporary/numbers")
 
 # compiles COMPILER WORD..: the header alone, and what holds it.
