@@ -1,5 +1,5 @@
 -- `streams::write_to` meets its contract. The measure is the bytes that are left with the interruptions that it still bears: a call that moved
--- bytes leaves fewer of the first (`moved`), and one that was interrupted fewer of the second (`spared`). Assumes nothing.
+-- bytes leaves fewer of the first, and one that was interrupted fewer of the second. Assumes nothing.
 use Prim.Native.Nat.{◌+◌, ◌-◌, ◌≤◌}
 use lib.ListN.{length}
 use Rattle.streams.proofs.write_to.Given as goal

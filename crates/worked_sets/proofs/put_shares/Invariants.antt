@@ -1,4 +1,4 @@
--- `sets::put_shares` meets its contract: the rows are counted up to 64. Assumes nothing.
+-- `worked_sets::put_shares` meets its contract: the rows are counted up to 64. Assumes nothing.
 use Prim.Native.Nat.{◌≤◌, ◌-◌}
 use Rattle.model.specs.Limits.{jobs_most}
 use Rattle.worked_sets.proofs.put_shares.Given as goal
