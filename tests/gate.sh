@@ -15,17 +15,17 @@ cp -R .ci README.md examples include tests tools "$room/whole"
 cp --parents docs/SPEC.md docs/REFUSALS.md crates/plan/std{in,out} crates/window/stdin crates/model/specs/Limits.antt "$room/whole"
 cp -R independent/tests "$room/whole/independent"
 read -ra tests < <(sed -n_e 's/^tests=\((.*)\)$/\1/p' .ci/run)
-libraries=(model text kernel clampfern)
+libraries=(model text kernel clampfern clampfern_c)
 all=$((2 * ${#libraries[@]} + 1)) # each library and its edit, and the program
 (
     cd "$room/whole" || exit
-    printf '%s:\n' "${libraries[@]}" plan >crates.txt
+    printf '%s:\n' "${libraries[@]}" plan | sed 's/^clampfern_c:/clampfern_c staticlib:/' >crates.txt
     mkdir -p crates/plan/src && touch crates/plan/src/main.rt
     for crate in "${libraries[@]}"; do
-        mkdir -p "crates/$crate/must-fail" "target/must-fail/$crate/one"
+        mkdir -p "crates/$crate/must-fail" target
         cp -R "$OLDPWD/crates/$crate/src" "crates/$crate"
         printf '%s\n' 'shows: a wrong answer' 'at: a-fact' 'file: src/lib.rt' 'old: a' 'new: b' >"crates/$crate/must-fail/one.edit"
-        echo "/top/target/must-fail/$crate/one/proofs/Facts.antt:1:1: error: \`a-fact\`: it does not follow" >"target/must-fail/$crate/one/.log"
+        echo "rt: must-fail $crate/one.edit: refused, as it must be: ./proofs/Facts.antt:1:1: error: \`a-fact\`: it does not follow" >>target/ci.log
         printf '%s\n' "## $crate" '| function | rules out |' '|---|---|' '| `f(x)` | a wrong answer [one]; one edit, since no other is wrong |' \
             '' '| theorem | says |' '|---|---|' '| `law` | what holds |' '' 'Names may go on in the next line [one,' 'one].' ''
     done >docs/PROMISES.md
@@ -38,9 +38,10 @@ all=$((2 * ${#libraries[@]} + 1)) # each library and its edit, and the program
     echo 0 >status
     touch absent
     {
-        printf 'logic=proved functions=1 sum=0123 native=nat\nrt: %s proved (1 s)\n' "${libraries[@]}" plan
-        printf 'rt: must-fail %s/one: refused, as it must be (first at src/lib.rt:1:1; 1 s)\n' "${libraries[@]}"
-        printf "rt: plan ran as nobody, and wrote what its file 'stdout' has (0 s)\n%s passed, 0 failed\n" "$all"
+        printf 'logic=proved functions=1 sum=0123 native=nat\nrt: %s proved\n' "${libraries[@]}" plan
+        cat ../target/ci.log
+        printf 'rt: plan ran, and wrote what its file stdout has\n'
+        printf 'rt: ok; handles allowed: none; must-fail edits: %s refused\n%s passed, 0 failed\n' "${#libraries[@]}" "$all"
     } >ci
     for file in ../independent/tests/*.rs; do
         printf '     Running tests/%s (target/release/deps/x)\nrunning 100 tests\n' "$(basename "$file")"
@@ -61,14 +62,14 @@ all=$((2 * ${#libraries[@]} + 1)) # each library and its edit, and the program
     echo 'queries 200000, named 100, idle 100, refused 1: 100, 2: 100, 8: 100, 9: 100, 10: 100, 11: 100, 12: 100, 13: 100' >lines
     printf 'texts 1500\naccepted 500\nrefused 500\n' >windows
     # the program, and the loader that runs it after two words
-    mkdir -p ../target/bin ../kit/toolchain/lib
-    cat >../target/bin/window <<'END'
+    mkdir -p ../crates/{window,clampfern_c}/out ../kit/toolchain/lib && touch ../crates/clampfern_c/out/libclampfern_c.a
+    cat >../crates/window/out/window <<'END'
 #!/bin/sh
 cat >/dev/null 2>&1 || { echo 'window: the input cannot be read' >&2 && exit; }
 echo idle 2>/dev/null || echo 'window: the answer cannot be written' >&2
 END
     printf '#!/bin/sh\nshift 2\nexec "$@"\n' >../kit/toolchain/lib/ld-linux-x86-64.so.2
-    chmod +x ../target/bin/window ../kit/toolchain/lib/*
+    chmod +x ../crates/window/out/window ../kit/toolchain/lib/*
 )
 cat >"$room/bin/rt" <<'END'
 #!/bin/sh
@@ -163,15 +164,19 @@ fails() {
 }
 
 # ---- the gate
-passes .ci/run "$((all + 3 + ${#tests[@]})) passed, 0 failed"
+passes .ci/run "$((all + 2 + ${#tests[@]})) passed, 0 failed"
+passes .ci/run "$((all + 2 + ${#tests[@]})) passed, 0 failed" \
+    'sed -i "s/^rt: text proved.*/rt: text is kept: an earlier run on this machine proved the same files over the same libraries/" said/ci'
 fails "rt ci passed 0 of the $all crates and edits" 'echo 0 passed, 0 failed >said/ci'
 fails "rt ci passed 6 of the $all crates and edits" 'sed -i "s/^$all passed/6 passed/" said/ci'
 fails 'rt ci did not say: model proved' 'echo "$all" passed, 0 failed >said/ci'
 fails 'rt ci did not say: text proved' 'sed -i "/^rt: text proved/d" said/ci'
-fails 'rt ci did not say: text proved' 'sed -i "s/^rt: text proved.*/rt: text proved (unchanged since it was last proved)/" said/ci'
+fails 'rt ci did not say: text proved' 'sed -i "s/^rt: text proved.*/rt: text proved once/" said/ci'
 fails 'rt ci did not say: model proved, logic 0123' 'sed -i "0,/sum=0123/s//sum=4567/" said/ci'
-fails 'rt ci did not say: text/one refused' 'sed -i "/^rt: must-fail text/d" said/ci'
-fails 'rt ci did not say: text/two refused' 'touch crates/text/must-fail/two.edit'
+fails 'rt ci did not say: text/one.edit refused' 'sed -i "/^rt: must-fail text/d" said/ci'
+fails 'must-fail edits are bad' 'sed -i "/^rt: ok/s/$/, 1 bad/" said/ci'
+fails "rt ci has no line 'rt: ok'" 'sed -i "/^rt: ok/d" said/ci'
+fails 'rt ci did not say: text/two.edit refused' 'touch crates/text/must-fail/two.edit'
 fails 'rt ci did not say: plan run' 'sed -i "/^rt: plan ran/d" said/ci'
 fails 'rt ci did not say: more proved' 'echo more: text >>crates.txt'
 fails 'rt ci ended with status 1 and 0 failed' 'echo 1 >said/status'
@@ -258,45 +263,45 @@ fails '' 'echo exit 1 >>said/ticks'
 fails '' 'echo exit 1 >>said/window'
 fails '> examples/two-jobs.txt: window 10' 'echo exit 0 >said/window'
 fails '' ': >tests/c/window.stdout'
-fails 'a directory for input: status 0' 'sed -i "s/^cat .*/cat >\/dev\/null/" target/bin/window'
-fails 'full output: status' 'echo echo >target/bin/window'
+fails 'a directory for input: status 0' 'sed -i "s/^cat .*/cat >\/dev\/null/" crates/window/out/window'
+fails 'full output: status' 'echo echo >crates/window/out/window'
 
 # ---- the must-fail edits' facts
 # edit SAYING CHANGE: an edit with such a change.
 edit() {
     fails "crates/text/must-fail/one.edit: $1" "sed -i '$2' crates/text/must-fail/one.edit"
 }
-# logged SAYING LINE..: the log of an edit with these lines. A + stands for the place of the edited copy.
+# logged SAYING LINE: what the log says of an edit.
 logged() {
-    printf '%s\n' "${@:2}" | sed 's,+,/top/target/must-fail/text/one/,' >"$room/log"
-    fails "crates/text/must-fail/one.edit: $1" 'cp "$room/log" target/must-fail/text/one/.log'
+    fails "crates/text/must-fail/one.edit: $1" "sed -i 's,^rt: must-fail text/one.edit: .*,rt: must-fail text/one.edit: $2,' target/ci.log"
 }
-fact='+proofs/Facts.antt:1:1: error: `a-fact`: it does not follow'
-rests='+proofs/g/Proof.antt:9:1: error: `g-spec`: `close` was not admitted (it was rejected), so this cannot be checked'
+refused='refused, as it must be'
 unproved='it is not proved that what the function ensures holds when it returns (`returns-2`)'
-mkdir -p "$room/whole/target/must-fail/text/one/src"
-printf '%s\n' '// a function' 'pub fn f(x: u8) -> u8' | tee "$room/whole/target/must-fail/text/one/src/lib.rt" >"$room/whole/target/must-fail/text/one/src/m.rt"
+mkdir -p "$room/whole/crates/text/src"
+printf '%s\n' '// a function' 'pub fn f(x: u8) -> u8' '{' '    x' '}' '#[tactic(auto)]' 'fn g()' | tee "$room/whole/crates/text/src/lib.rt" >"$room/whole/crates/text/src/m.rt"
 passes tests/must-fail-at-a-fact.sh "${#libraries[@]} edits"
 passes tests/must-fail-at-a-fact.sh "${#libraries[@]} edits" 'sed -i "s/^file: src/file: specs/" crates/text/must-fail/one.edit && mv crates/text/must-fail/{,definition_}one.edit &&
-    mv target/must-fail/text/{,definition_}one && sed -i s,/one/,/definition_one/, target/must-fail/text/definition_one/.log'
+    sed -i s,text/one,text/definition_one, target/ci.log'
 fails 'crates/text: no must-fail edit' 'rm crates/text/must-fail/one.edit'
 fails 'crates/text: no must-fail edit' 'rm -r crates/*/must-fail'
-fails 'text/must-fail/one.edit: no log' 'rm target/must-fail/text/one/.log'
+fails 'there is no target/ci.log' 'rm target/ci.log'
+fails 'text/must-fail/one.edit: not in the log' 'sed -i "/text.one/d" target/ci.log'
 edit "the first line is no 'shows:'" 's/^shows: .*/shows: /'
 edit "the second line is no 'at:'" 2d
 edit "refused at 'a-fact', and not at 'b-fact'" s/a-fact/b-fact/
 edit "changes a definition, and is not named 'definition_..'" 's/^file: src/file: specs/'
 edit "changes a definition, and is not named 'definition_..'" 's/^old: .*/old:     ensures { a }/'
 fails "changes no definition, and is named 'definition_..'" 'mv crates/text/must-fail/{,definition_}one.edit'
-logged 'refused, but not at a fact' ''
-logged 'refused, but not at a fact' '+proofs/f/Proof.antt:9:1: error: `returns`: x has no `Need-1`' "$fact"
-logged 'refused, but not at a fact' '+proofs/f/Proof.antt:9:1: error: `returns`: `x` is not in scope' "$fact"
-logged 'refused, but not at a fact' '+src/lib.rt:1:1: error[parse]: no' "$fact"
-logged 'refused, but not at a fact' "$rests"
-logged "refused at 'm::f returns', and not" '+proofs/m/f/Proof.antt:9:1: error: `returns`: it does not follow' "$fact"
-logged "refused at 'f returns', and not" "$rests" '+proofs/f/Proof.antt:9:1: error: `returns`: it does not follow'
-logged "refused at 'f returns-2', and not" "$rests" "note: +src/lib.rt:2:1: $unproved"
-logged "refused at 'm::f returns-2', and not" "note: +src/m.rt:2:1: $unproved"
+logged 'not refused at a fact' "$refused"
+logged 'not refused at a fact' "$refused (only because a proof file names what the edit took away): ./proofs/Facts.antt:1:1: error: \`a-fact\`: no field"
+logged 'not refused at a fact' "BAD EDIT: ./proofs/Facts.antt:1:1: error: \`a-fact\`: no"
+logged 'not refused at a fact' "$refused: src/lib.rt:1:1: error[parse]: no"
+logged "refused at 'm::f returns', and not" "$refused: ./proofs/m/f/Answers.antt:9:1: error: \`returns\`: it does not follow"
+logged "refused at 'f invariant-loop-i', and not" "$refused: ./proofs/f/Invariants.antt:9:1: error: \`invariant-loop-i\`: it does not follow"
+logged "refused at 'f returns-2', and not" "$refused: note: src/lib.rt:2:1: $unproved"
+logged "refused at 'f returns-2', and not" "$refused: note: src/lib.rt:4:5: $unproved"
+logged "refused at 'g returns-2', and not" "$refused: note: src/lib.rt:6:1: $unproved"
+logged "refused at 'm::f returns-2', and not" "$refused: note: src/m.rt:2:1: $unproved"
 
 # ---- the promises and their edits
 # promised SAYING CHANGE: a page of promises with such a change of its last part, which is a crate's.
@@ -366,7 +371,7 @@ header 'has numbers that the sources have not: MORE' 's/^enum/#define CLAMPFERN_
 header 'has numbers that the sources have not: REFUSAL_MORE' 's/ORDER = 10/&, CLAMPFERN_REFUSAL_MORE = 14/'
 header 'writer clampfern_plan, ' '/^extern "C"/d; /^}$/d'
 header 'declares these functions: ' 's/^size_t clampfern_plan/size_t more(void);\n&/'
-fails 'the sources have these entries' 'sed -i "s/^\(pub extern.*\) usize/\1 u32/" crates/clampfern/src/*.rt'
+fails 'the sources have these entries' 'sed -i "s/^\(pub extern.*\) usize/\1 u32/" crates/clampfern_c/src/*.rt'
 fails 'the sources give no ANSWER_MOST' 'sed -i "/const ANSWER_MOST/d" crates/text/src/*.rt'
 fails 'slicesMost is not 95' 'sed -i "s/const SLICES_MOST: usize = 94/const SLICES_MOST: usize = 95/" crates/model/src/lib.rt'
 fails 'windowMost is not 65535' 'sed -i "s/^window_most = .*/window_most = 65536/" crates/model/specs/Limits.antt'
