@@ -1,5 +1,5 @@
-// The tick handler for C: what the board's kernel calls at each tick, by the exports of crate clampfern_c (include/clampfern.h). The lines are read, and
-// the answers found, in the crates below; here each answer becomes the one number that C gets.
+// The tick handler for C: what the board's kernel calls at each tick, by the exports of crate clampfern_c (include/clampfern.h). The lines are read,
+// and the answers found, in the crates below; here each answer becomes the one number that C gets.
 ghost use Rattle.std.specs.Prelude.{◌≡◌};
 ghost use Rattle.handler.specs.Running.{says_named};
 ghost use Rattle.packed.specs.Packed.{packed_asked};

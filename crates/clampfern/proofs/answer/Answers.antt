@@ -14,4 +14,7 @@ pub returns : goal.returns
 returns c =
     let text = c.args.text.now in
     let whole = entered-whole c.clampfern_plan-size.ensures (answer-size text).1 in
-    record { size = whole.0; bytes = whole.1 ∙ ap (λ (zs : List ℕ). answer_text text ++ zs) (drop-replicate (length (answer_text text)) answer_most 0) }
+    record {
+      size = whole.0;
+      bytes = whole.1 ∙ ap (λ (zs : List ℕ). answer_text text ++ zs) (drop-replicate (length (answer_text text)) answer_most 0);
+    }

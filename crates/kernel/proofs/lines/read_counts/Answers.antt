@@ -29,28 +29,34 @@ returns-then-lines-from c = hands-refused _ _ _ (no-counts _ c.args.lines.now c.
 
 pub returns-in-Refused : goal.returns-in-Refused
 returns-in-Refused c =
-    hands-refused _ _ _ (rw c.in-Refused.is at (said c.args.board c.args.lines.now c.args.from (omega arith) c.cut_at-cut.ensures c.form_says.ensures _ refl))
+    hands-refused _ _ _
+    (rw c.in-Refused.is at
+    (said c.args.board c.args.lines.now c.args.from (omega arith) c.cut_at-cut.ensures c.form_says.ensures _ refl))
 
 pub returns-in-OfBoard : goal.returns-in-OfBoard
 returns-in-OfBoard c =
     hands-refused _ _ _
-    (rw (c.in-Says.is, c.in-OfBoard.is) at (said c.args.board c.args.lines.now c.args.from (omega arith) c.cut_at-cut.ensures c.form_says.ensures _ refl))
+    (rw (c.in-Says.is, c.in-OfBoard.is) at
+    (said c.args.board c.args.lines.now c.args.from (omega arith) c.cut_at-cut.ensures c.form_says.ensures _ refl))
 
 pub returns-in-OfCounts : goal.returns-in-OfCounts
 returns-in-OfCounts c =
     let ends = given-ends _ _ _ _ _ c.cut_at-cut.ensures (rw c.in-Says.is at (c.form_says.ensures.is _ _ c.cut_at-cut.ensures)) in
     hands-as c.read_rows.ensures
-    (rw (c.in-Says.is, c.in-OfCounts.is) at (said c.args.board c.args.lines.now c.args.from (omega arith) c.cut_at-cut.ensures c.form_says.ensures _ ends))
+    (rw (c.in-Says.is, c.in-OfCounts.is) at
+    (said c.args.board c.args.lines.now c.args.from (omega arith) c.cut_at-cut.ensures c.form_says.ensures _ ends))
 
 pub returns-in-OfShare : goal.returns-in-OfShare
 returns-in-OfShare c =
     hands-refused _ _ _
-    (rw (c.in-Says.is, c.in-OfShare.is) at (said c.args.board c.args.lines.now c.args.from (omega arith) c.cut_at-cut.ensures c.form_says.ensures _ refl))
+    (rw (c.in-Says.is, c.in-OfShare.is) at
+    (said c.args.board c.args.lines.now c.args.from (omega arith) c.cut_at-cut.ensures c.form_says.ensures _ refl))
 
 pub returns-in-OfSlice : goal.returns-in-OfSlice
 returns-in-OfSlice c =
     hands-refused _ _ _
-    (rw (c.in-Says.is, c.in-OfSlice.is) at (said c.args.board c.args.lines.now c.args.from (omega arith) c.cut_at-cut.ensures c.form_says.ensures _ refl))
+    (rw (c.in-Says.is, c.in-OfSlice.is) at
+    (said c.args.board c.args.lines.now c.args.from (omega arith) c.cut_at-cut.ensures c.form_says.ensures _ refl))
 
 pub overflow_add-cut : goal.overflow_add-cut
 overflow_add-cut c = omega (arith, cut_fits _ _ _ c.cut_at-cut.ensures, length-drop c.args.from c.args.lines.now)

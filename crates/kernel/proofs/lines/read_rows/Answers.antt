@@ -29,9 +29,9 @@ loop-at-preserved c =
     let cuts = c.cut_at-cut.ensures in
     let is = c.row_of.ensures.is _ _ cuts in
     elim c.match-row_of.branch [
-      in-Nothing w ↦ rw (w.rows-is, w.n-is) (turn-nothing _ _ _ _ _ _ _ _ inv c.loop-at-test.true _ cuts (rw w.in-Nothing.is at is))
-    | in-Holds w ↦ rw (w.rows-is, w.n-is, w.number_of.ensures)
-        (turn-row _ _ _ _ _ _ _ _ inv c.loop-at-test.true _ cuts _ (rw w.in-Holds.is at is) (omega arith))
+      | in-Nothing w ↦ rw (w.rows-is, w.n-is) (turn-nothing _ _ _ _ _ _ _ _ inv c.loop-at-test.true _ cuts (rw w.in-Nothing.is at is))
+      | in-Holds w ↦ rw (w.rows-is, w.n-is, w.number_of.ensures)
+          (turn-row _ _ _ _ _ _ _ _ inv c.loop-at-test.true _ cuts _ (rw w.in-Holds.is at is) (omega arith))
     ]
 
 pub returns-then-i-jobs : goal.returns-then-i-jobs
