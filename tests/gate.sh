@@ -14,7 +14,7 @@ mkdir -p "$room/whole/said" "$room/whole/docs" "$room/whole/independent/target/r
 cp -R .ci README.md examples include tests tools "$room/whole"
 cp --parents docs/SPEC.md docs/REFUSALS.md crates/plan/std{in,out} crates/window/stdin crates/model/specs/Limits.antt "$room/whole"
 cp -R independent/tests "$room/whole/independent"
-read -ra tests < <(sed -n_e 's/^tests=\((.*)\)$/\1/p' .ci/run)
+read -ra tests < <(sed -nE 's/^tests=\((.*)\)$/\1/p' .ci/run)
 libraries=(model text kernel clampfern clampfern_c)
 all=$((2 * ${#libraries[@]} + 1)) # each library and its edit, and the program
 (
@@ -273,7 +273,7 @@ edit() {
 }
 # logged SAYING LINE: what the log says of an edit.
 logged() {
-    fails "crates/text/must-fail/one.edit: $1" "sed -i 's,^rt: must-fail text/one.edit: .*,rt: must-fail text/one.edit: $2,' target/ci.log"
+    fails "crates/text/must-fail/one.edit: $1" "sed -i 's#^rt: must-fail text/one.edit: .*#rt: must-fail text/one.edit: $2#' target/ci.log"
 }
 refused='refused, as it must be'
 unproved='it is not proved that what the function ensures holds when it returns (`returns-2`)'
@@ -352,7 +352,7 @@ header() {
 }
 # header_numbers: a line NAME NUMBER for each number of the header that this test looks at
 header_numbers() {
-    sed -n_e '/STACK_MOST/d; s/^.*CLAMPFERN_([A-Z_]+) (= )?([0-9]+).*/\1 \3/p' include/clampfern.h
+    sed -nE '/STACK_MOST/d; s/^.*CLAMPFERN_([A-Z_]+) (= )?([0-9]+).*/\1 \3/p' include/clampfern.h
 }
 passes tests/header.sh "$(header_numbers | wc -l) numbers"
 for entry in plan pack tick packed_tick; do
@@ -373,8 +373,8 @@ header 'writer clampfern_plan, ' '/^extern "C"/d; /^}$/d'
 header 'declares these functions: ' 's/^size_t clampfern_plan/size_t more(void);\n&/'
 fails 'the sources have these entries' 'sed -i "s/^\(pub extern.*\) usize/\1 u32/" crates/clampfern_c/src/*.rt'
 fails 'the sources give no ANSWER_MOST' 'sed -i "/const ANSWER_MOST/d" crates/text/src/*.rt'
-fails 'slicesMost is not 95' 'sed -i "s/const SLICES_MOST: usize = 94/const SLICES_MOST: usize = 95/" crates/model/src/lib.rt'
-fails 'windowMost is not 65535' 'sed -i "s/^window_most = .*/window_most = 65536/" crates/model/specs/Limits.antt'
+fails 'slices_most is not 95' 'sed -i "s/const SLICES_MOST: usize = 94/const SLICES_MOST: usize = 95/" crates/model/src/lib.rt'
+fails 'window_most is not 65535' 'sed -i "s/^window_most = .*/window_most = 65536/" crates/model/specs/Limits.antt'
 fails OUT_MOST_is_the_sources_number 'sed -i "s/const SLICE_SIZE: usize = 8/const SLICE_SIZE: usize = 9/" crates/text/src/*.rt'
 fails 'docs/REFUSALS.md has no row | 9 | `RECORD` |' 'sed -i "/RECORD/d" docs/REFUSALS.md'
 fails REFUSAL_ORDER_is_the_sources_number 'sed -i "s/Refusal::Order(_) => 10,/Refusal::Order(_) => 11,/" crates/model/src/lib.rt'
