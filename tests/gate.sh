@@ -74,7 +74,7 @@ END
 cat >"$room/bin/rt" <<'END'
 #!/bin/sh
 case $1 in
-doc) echo kit/docs/first ;;
+doc) echo kit/START-HERE.md ;;
 version) cat said/version ;;
 ci) cat said/ci && exit "$(cat said/status)" ;;
 esac

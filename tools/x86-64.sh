@@ -3,7 +3,7 @@
 # emulator is the kit's own, and `cc`, `cxx` and `nm` are Debian's for x86-64.
 # shellcheck shell=bash disable=SC2034 # who sources it uses them
 machine=$(uname -m)
-kit=$(dirname "$(dirname "$(rt doc)")")
+kit=$(dirname "$(rt doc </dev/null)")
 toolchain=$kit/on/$machine/toolchain
 [ -d "$toolchain" ] || toolchain=$kit/toolchain
 emulator=$toolchain/bin/qemu-x86_64
@@ -48,11 +48,28 @@ compile() {
     find_compilers && mkdir -p target/c && quietly $cc -std=c11 -O2 -Wall -Wextra -Werror "$@"
 }
 
-# static_library: writes target/staticlib/libclampfern.a, the archive of crate clampfern_c, where it is not newer than every source already.
+# sources_after FILE: whether a source of ours is newer than the file, or the file is not there.
+sources_after() {
+    [ ! -e "$1" ] || [ -n "$(find crates crates.txt -path '*/out' -prune -o -type f -newer "$1" -print -quit)" ]
+}
+
+# static_library: writes target/staticlib/libclampfern.a, the archive of crate clampfern_c, where it is not newer than every source already. Behind
+# `rt ci` (.ci/run) it is made over the libraries that this proved and left, as `rt lib` would prove them once more.
 static_library() {
-    local library=target/staticlib/libclampfern.a
-    [ -e $library ] && [ -z "$(find crates crates.txt -path '*/out' -prune -o -type f -newer $library -print -quit)" ] && return
-    (cd crates/clampfern_c && quietly rt lib) && mkdir -p target/staticlib && cp crates/clampfern_c/out/libclampfern_c.a $library
+    local library=target/staticlib/libclampfern.a name words=()
+    sources_after $library || return 0
+    mkdir -p target/staticlib || return
+    for name in $(sed -nE 's/^clampfern_c staticlib: //p' crates.txt); do
+        [ -d "crates/$name/out/rlib/$name.rlib" ] || continue
+        words+=(--extern "$name=crates/$name/out/rlib/$name.rlib" -L "dependency=crates/$name/out/rlib")
+    done
+    if sources_after target/ci.log || [ ! -d crates/clampfern/out/rlib/clampfern.rlib ]; then
+        (cd crates/clampfern_c && quietly rt lib) && cp crates/clampfern_c/out/libclampfern_c.a $library
+    else
+        quietly "$kit/bin/rattle" build --crate-name clampfern_c --crate-type staticlib crates/clampfern_c/src/lib.rt \
+            --extern "std=$kit/rlibs/std.rlib" -L "dependency=$kit/rlibs" "${words[@]}" --antt-project "$kit/rattle/logic/antt-project.json" \
+            --logic-built "$kit/logic_built" --toolchain "$toolchain" -o $library
+    fi
 }
 
 # c_program NAME [WORD..]: builds target/c/NAME from tests/c/NAME.c and the static library; the words go to the compiler's end.
