@@ -56,10 +56,11 @@ sources_after() {
 # static_library: writes target/staticlib/libclampfern.a, the archive of crate clampfern_c, where it is not newer than every source already. Behind
 # `rt ci` (.ci/run) it is made over the libraries that this proved and left, as `rt lib` would prove them once more.
 static_library() {
-    local library=target/staticlib/libclampfern.a name words=()
+    local library=target/staticlib/libclampfern.a name below=() words=()
     sources_after $library || return 0
     mkdir -p target/staticlib || return
-    for name in $(sed -nE 's/^clampfern_c staticlib: //p' crates.txt); do
+    read -ra below < <(sed -nE 's/^clampfern_c staticlib: //p' crates.txt)
+    for name in "${below[@]}"; do
         [ -d "crates/$name/out/rlib/$name.rlib" ] || continue
         words+=(--extern "$name=crates/$name/out/rlib/$name.rlib" -L "dependency=crates/$name/out/rlib")
     done

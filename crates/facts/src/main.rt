@@ -223,7 +223,7 @@ fn are_moves(
 // The planning call over the first `n` jobs, with the first `m` and `k` rows of the tables lent to it.
 fn plan_lent(
     board: Board,
-    jobs: [Job; JOBS_MOST],
+    jobs: &[Job; JOBS_MOST],
     n: usize,
     mut shares: [Share; JOBS_MOST],
     m: usize,
@@ -241,7 +241,7 @@ fn plan_lent(
 }
 
 // The same with tables of marks.
-fn plan_over_marks(board: Board, jobs: [Job; JOBS_MOST], n: usize, m: usize, k: usize) -> Lent
+fn plan_over_marks(board: Board, jobs: &[Job; JOBS_MOST], n: usize, m: usize, k: usize) -> Lent
     requires { (n ≤ jobs_most) × ((m ≤ jobs_most) × (k ≤ slices_most)) }
 {
     let shares = [share_mark(); JOBS_MOST];
@@ -401,18 +401,18 @@ fn is_right_at_the_edge(
 ) -> bool
     requires { (n ≤ jobs_most) × ((shared ≤ jobs_most) × (sliced ≤ slices_most)) }
 {
-    let exact = plan_over_marks(board, jobs, n, shared, sliced);
+    let exact = plan_over_marks(board, &jobs, n, shared, sliced);
     if !is_answered(exact, Planned::Plan(shared, sliced), t) {
         return false;
     }
     if shared > 0 {
-        let short = plan_over_marks(board, jobs, n, shared - 1, sliced);
+        let short = plan_over_marks(board, &jobs, n, shared - 1, sliced);
         if !is_answered(short, Planned::Refused(Refusal::TooShort), t) {
             return false;
         }
     }
     if sliced > 0 {
-        let short = plan_over_marks(board, jobs, n, shared, sliced - 1);
+        let short = plan_over_marks(board, &jobs, n, shared, sliced - 1);
         if !is_answered(short, Planned::Refused(Refusal::TooShort), t) {
             return false;
         }
@@ -457,7 +457,7 @@ fn show(rt: &HostRuntime, board: Board, jobs: [Job; JOBS_MOST], n: usize)
     requires { n ≤ jobs_most }
 {
     put_balance(rt, split::starting_balance(board, jobs, n));
-    let lent = plan_over_marks(board, jobs, n, JOBS_MOST, SLICES_MOST);
+    let lent = plan_over_marks(board, &jobs, n, JOBS_MOST, SLICES_MOST);
     let moved = planner::moves(board, jobs, n);
     let planned = lent.planned;
     match planned {
