@@ -1,5 +1,5 @@
 /* Clampfern from C: plans the jobs of a board with two kinds of core, from text to text, and tells a tick handler which job of a plan each core runs.
- * Link the archive that `rt lib` writes in crates/clampfern_c (x86-64), as out/libclampfern_c.a. It needs memcpy and memset and nothing else: no heap, no
+ * Link target/staticlib/libclampfern.a (x86-64), which `tools/archive` writes. It needs memcpy and memset and nothing else: no heap, no
  * files, no state. tests/c/example.c is a caller that reads answers into structs, tests/c/window.c one that asks at each tick. */
 #ifndef CLAMPFERN_H
 #define CLAMPFERN_H

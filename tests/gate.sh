@@ -294,6 +294,7 @@ edit "changes a definition, and is not named 'definition_..'" 's/^old: .*/old:  
 fails "changes no definition, and is named 'definition_..'" 'mv crates/text/must-fail/{,definition_}one.edit'
 logged 'not refused at a fact' "$refused"
 logged 'not refused at a fact' "$refused (only because a proof file names what the edit took away): ./proofs/Facts.antt:1:1: error: \`a-fact\`: no field"
+logged 'not refused at a fact' "$refused (only by a limit of the prover, which gave no verdict): ./proofs/Facts.antt:1:1: error: \`a-fact\`: no more steps"
 logged 'not refused at a fact' "BAD EDIT: ./proofs/Facts.antt:1:1: error: \`a-fact\`: no"
 logged 'not refused at a fact' "$refused: src/lib.rt:1:1: error[parse]: no"
 logged "refused at 'm::f returns', and not" "$refused: ./proofs/m/f/Answers.antt:9:1: error: \`returns\`: it does not follow"

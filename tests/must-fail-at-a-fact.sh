@@ -1,7 +1,8 @@
 #!/usr/bin/env bash
 # Each must-fail edit is refused at the fact that it names. Its first line `shows:` is the wrong behaviour that is ruled out, its second line `at:`
-# the first fact that fails: a theorem, or a function with the name of the goal that stays open. A refusal only because a proof names what the edit
-# took away, or by a limit of the prover, or of an edit that is not well formed, shows nothing of the promise. An edit of a definition or of a contract
+# the first fact that fails: a theorem, or a function with the name of the goal that stays open, whether it is shown false or no proof is found. A
+# refusal only because a proof names what the edit took away, or only by a limit at which the prover gives no verdict, or of an edit that is not well
+# formed, shows nothing of the promise. An edit of a definition or of a contract
 # is named `definition_..`, and no other is. Each library has an edit. Run after `rt ci`, whose log (target/ci.log) has a line for each edit.
 set -u -o pipefail
 cd "$(dirname "$0")/.." || exit 2
