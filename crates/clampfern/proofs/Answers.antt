@@ -1,5 +1,5 @@
 -- What the answer to a text says, for every text: its plan, or its refusal, which is listed. Assumes nothing.
---   answer_of        the plan of the set that a text describes, or the first refusal
+--   answer_of       the plan of the set that a text describes, or the first refusal
 --   answer-said     the bytes of the answer say it
 --   answer-listed   each refusal is listed, with its cause, and its number and place are small
 --   entry-cases     the C entry either leaves bytes that are too few as they were, or puts the answer in front; writes-put: so does a writer

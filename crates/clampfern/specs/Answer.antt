@@ -1,9 +1,9 @@
 -- From text to text: what the program `plan` and the C entry answer. docs/SPEC.md, "The text".
---   planned      the plan of a text's set, on tables that are long enough for any
+--   planned       the plan of a text's set, on tables that are long enough for any
 --   lines_for     the lines of a plan, or of its refusal
 --   answer_text   the answer to a text: its plan's lines, or one line with the first refusal
---   Entered      the C entry: the count of the bytes written, and 0 where the lent text is too short
---   Answered     the answer by value: the count, the lines, and zeros behind them
+--   Entered       the C entry: the count of the bytes written, and 0 where the lent text is too short
+--   Answered      the answer by value: the count, the lines, and zeros behind them
 -- Assumes nothing.
 use Rattle.std.specs.Prelude.{cond, List, ◌++◌, ◌≡◌, ℕ, ◌-◌, ltb, length, replicate}
 use Rattle.model.specs.Limits.{jobs_most, slices_most}

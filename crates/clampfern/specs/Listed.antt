@@ -1,7 +1,7 @@
 -- Internal: no public promise cites this. The theorems on the page of demands do, so read it with them. The refusals of a text, each by its number,
 -- with its place and its cause: docs/SPEC.md, "The text", in the order in which a text is read and its set is planned.
---   line_at       line i of a text, from 1
---   last_line     the last line that is read
+--   line_at      line i of a text, from 1
+--   last_line    the last line that is read
 --   Good         a line as an input has it there: a board first, then jobs
 --   Reached      a line that is read: the text is short enough, and every line before it is good
 --   TextListed   the number and the place of a refusal, and why it is given

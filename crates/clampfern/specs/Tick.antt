@@ -5,7 +5,7 @@
 --   count_in       the count of an answer, and 0 where it is a refusal
 --   packs_for      what packing lines answers: their refusal, or what packing their table answers
 --   bytes_for      the packed bytes of their table, and none where the lines are refused
---   PackedBytes   packing for C: the count, 0 where it is refused, and every lent byte
+--   PackedBytes    packing for C: the count, 0 where it is refused, and every lent byte
 -- Assumes nothing.
 use Rattle.std.specs.Prelude.{List, [], ◌≡◌, ℕ, ◌+◌, length}
 use Rattle.model.specs.Packed.{slices_in}

@@ -1,9 +1,9 @@
 -- The promise of `plan_columns`, of each of its answers: what it puts into columns is the plan's. Assumes nothing.
 --   ticks_after, slices_after   a column of ticks and one of slices after the call, by what it answers
---   columns-enough            columns that are not too short have a row for each job and for each slice of every plan
---   columned-refused          a set that gets no shares
---   columned-short            columns that are too short
---   columned-plan             a plan
+--   columns-enough              columns that are not too short have a row for each job and for each slice of every plan
+--   columned-refused            a set that gets no shares
+--   columned-short              columns that are too short
+--   columned-plan               a plan
 use mathlib.Core.Path.{◌≡◌, refl, sym, ap, ◌∙◌}
 use mathlib.Core.Bool.{Bool, true, false, cond, ◌||◌}
 use mathlib.Core.List.{List, ◌++◌, map}

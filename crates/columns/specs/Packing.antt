@@ -3,19 +3,19 @@
 --   class_of     the jobs that a pass places
 --   share_on     the share of a job by its ticks on a kind and on the other
 --   shares_on    the shares of two columns, of which one is of a kind and one of the other
---   Filling     a table that is being filled: its column, how many rows there are so far, and the position on the kind where the next run begins
+--   Filling      a table that is being filled: its column, how many rows there are so far, and the position on the kind where the next run begins
 --   filling_of   the same, by the row, the core and the place there where the code puts the next slice
---   begun       where the code begins a kind, with so many rows before it
---   written     a column after numbers are written one behind the other from a row on
---   placed      a table that is being filled after one more piece
---   filled      the same after several
---   passed      the same after a pass over shares, whose jobs are numbered from i
---   Sized       shares of a legal size: not too many, and each job's two within the window
---   Asks        what has to be known where the code begins, by the table that it ends with: it has the rows and the cores
---   Stands      the code stands where a table that is being filled is
---   Rowed       the rows of such a table are there, and are counted
---   TableAsks   what the whole asks: a window within its limits, shares that the most cores have room for, and no more slices than the most
---   Tabled      a column that has the definition's rows, with the other rows as they were
+--   begun        where the code begins a kind, with so many rows before it
+--   written      a column after numbers are written one behind the other from a row on
+--   placed       a table that is being filled after one more piece
+--   filled       the same after several
+--   passed       the same after a pass over shares, whose jobs are numbered from i
+--   Sized        shares of a legal size: not too many, and each job's two within the window
+--   Asks         what has to be known where the code begins, by the table that it ends with: it has the rows and the cores
+--   Stands       the code stands where a table that is being filled is
+--   Rowed        the rows of such a table are there, and are counted
+--   TableAsks    what the whole asks: a window within its limits, shares that the most cores have room for, and no more slices than the most
+--   Tabled       a column that has the definition's rows, with the other rows as they were
 -- Assumes nothing.
 use Rattle.std.specs.Prelude.{Bool, List, [], ◌∷◌, ◌++◌, map, ◌≡◌, ℕ, ◌+◌, ◌*◌, ◌≤◌, ◌<◌, length, drop, set}
 use Rattle.rows.specs.Upto.{upto, at}

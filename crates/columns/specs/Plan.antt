@@ -1,14 +1,14 @@
 -- The plan of a set: its shares, and the table of slices that they give. The refusals of the split come before 7: docs/SPEC.md, "The slices".
---   Plan                       the shares of the jobs, and the table
---   plan_from                   the plan of given shares
---   fitted                     refusal 7 where a lent table has too few rows
---   plan_of                     the plan of any set, for tables of m shares and k slices
+--   Plan                         the shares of the jobs, and the table
+--   plan_from                    the plan of given shares
+--   fitted                       refusal 7 where a lent table has too few rows
+--   plan_of                      the plan of any set, for tables of m shares and k slices
 --   shares_given, slices_given   the rows that an answer gives: none where the set is refused
---   Counts                     how many shares a plan has, and how many slices
---   counts_in                   what the planning call answers: the counts of both
---   says_planned                what the code's answer says: counts, or a refusal by its number and its place
---   too_short                   columns of m1 and m2 ticks and k slices that cannot hold the plan of every set
---   columns_of                  the plan of any set, for such columns: refusal 7 where one is too short, whatever the set
+--   Counts                       how many shares a plan has, and how many slices
+--   counts_in                    what the planning call answers: the counts of both
+--   says_planned                 what the code's answer says: counts, or a refusal by its number and its place
+--   too_short                    columns of m1 and m2 ticks and k slices that cannot hold the plan of every set
+--   columns_of                   the plan of any set, for such columns: refusal 7 where one is too short, whatever the set
 -- Assumes nothing.
 use Rattle.std.specs.Prelude.{Bool, cond, ◌||◌, List, [], ℕ, ltb, length}
 use Rattle.model.specs.Limits.{jobs_most, slices_most}

@@ -2,8 +2,8 @@
 -- at a limit, and one past it there and nowhere else. The window is 10, with 2 cores of the first kind and 3 of the second. The lines, in this order:
 --   is_row         the kinds 0 to 3, and the byte above a slice's seven
 --   is_inside      lengths 0 and 1, ends at W and W + 1, cores at the count; is_bad: all of it
---   collides      a slice that ends where the other starts, one shared tick, another kind, another core, both ways round
---   meets         earlier rows alone; collision_of: of several pairs the lowest later row, and none
+--   collides       a slice that ends where the other starts, one shared tick, another kind, another core, both ways round
+--   meets          earlier rows alone; collision_of: of several pairs the lowest later row, and none
 --   check_of       its order: 1, 2, 12, 13
 --   cores_in       the kinds 0 to 3; is_beyond: ticks W − 1 and W, kinds, cores at the count
 --   is_at          the first tick, the last, and those beside them; kind and core

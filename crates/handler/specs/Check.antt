@@ -2,8 +2,8 @@
 --   is_row         whether a number is that of a slice: its second byte is a kind, and nothing stands above its seven bytes
 --   is_inside      whether a slice has a length above 0, ends within the window, and is on a core that the board has
 --   is_bad         whether a row is none that can be run: refusal 12
---   collides      whether two slices are on one core and share a tick
---   meets         whether row i collides with an earlier one: refusal 13
+--   collides       whether two slices are on one core and share a tick
+--   meets          whether row i collides with an earlier one: refusal 13
 --   collision_of   the lowest such row, and the count of all where there is none
 --   check_of       the checks in their order: a table that can be run, or a refusal by its number and its place
 -- Assumes nothing.

@@ -1,9 +1,9 @@
 -- The position in the window, which goes round: docs/SPEC.md, "The tick handler".
 --   next_of      the tick after a tick, and 0 after the last: refusal 1, then refusal 11
 --   left_at      where a position is left: at the tick that is given, or where it was
---   answered    what is answered: that it moved, or the refusal
+--   answered     what is answered: that it moved, or the refusal
 --   says_moved   what the code's answer says
---   MovesOn     what moving on promises: the answer, and where the position is after it
+--   MovesOn      what moving on promises: the answer, and where the position is after it
 -- Assumes nothing.
 use Rattle.std.specs.Prelude.{cond, ◌≡◌, ℕ, ◌+◌, eqb, leb}
 use Rattle.model.specs.Limits.{window_most}

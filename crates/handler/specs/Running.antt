@@ -2,7 +2,7 @@
 --   cores_in     the cores of a kind by its number: 1 the first, 2 the second; of any other there are none
 --   is_beyond    whether a tick is not in the window, or the board lacks the kind or the core: refusal 11
 --   is_at        whether a slice is on that core and runs at that tick
---   Running     what a core does at a tick: nothing, or the job of a number
+--   Running      what a core does at a tick: nothing, or the job of a number
 --   running_in   what it does by the rows of a table: the job of the row that is there
 --   asked_of     the handler's answer: the checks of the table, then 11, then what runs
 --   says_named   what the code's answer says

@@ -1,9 +1,9 @@
 -- Both sides of each line that the definitions of this crate draw, worked out on short lists of lines. What is held, in this order:
 --   handed_from   a whole text, with no row and with two in any order; each field with two bytes
---   10           no line, one line, a share or a slice that is missing, each at the line after the last; a line too many; shares exchanged; a slice
---                before the last share; a board, counts and slices where they do not belong
---   9            a job at the number and one below it, before 10; kinds 0 to 3; records of other texts, and of wrong length
---   8            an odd digit, before both; a blank line
+--   10            no line, one line, a share or a slice that is missing, each at the line after the last; a line too many; shares exchanged; a slice
+--                 before the last share; a board, counts and slices where they do not belong
+--   9             a job at the number and one below it, before 10; kinds 0 to 3; records of other texts, and of wrong length
+--   8             an odd digit, before both; a blank line
 --   handed_of     4,096 bytes and one more
 --   tick_of       the lines' refusal before the table's; the board's last tick, and the one after it
 -- It stands first, so that a definition that is made weaker is refused at an example. Assumes nothing.

@@ -3,18 +3,18 @@
 --   says_line    what the code's answer on a line says
 --   slice_by     the slice of a kind, by the numbers of its line
 --   slice_says   the entry of the record of a slice, by the numbers of its line: none where its kind is neither 1 nor 2
---   SaysCut     an answer on line i that is what every line says of which the cut is
---   counts      the counts of their two bytes
+--   SaysCut      an answer on line i that is what every line says of which the cut is
+--   counts       the counts of their two bytes
 --   row_says     what line i gives the table: its form decides first, then its job, then its place
 --   says_row     what the code's answer on such a line says
---   SaysRow     an answer on line i that is what every line gives of which the cut is
+--   SaysRow      an answer on line i that is what every line gives of which the cut is
 --   table_from   what the lines from the third on give
---   Column      a board with the numbers of its rows
+--   Column       a board with the numbers of its rows
 --   column_said  of an answer that gives a board and its rows, the numbers of these
 --   says_table   what the code's answer says, with the column that it has filled
 --   count_in     how many rows it says, and 0 for a refusal
 --   rows_most    the most rows that a table in lines has: a byte counts them
---   Hands       an answer and a column that say what the lines give
+--   Hands        an answer and a column that say what the lines give
 -- Assumes nothing.
 use Rattle.std.specs.Prelude.{cond, ◌||◌, List, [], ◌∷◌, ◌≡◌, ℕ, ◌/◌, ◌%◌, ◌≤◌, eqb, take}
 use Rattle.model.specs.Packed.{kind_of}

@@ -2,7 +2,7 @@
 -- is wrong by one there and nowhere else. The lines that are held, in this order:
 --   LegalJob    a cost of 0 and of 1, of 1,000,000 and one more, of W and one more, for each kind; one of two costs above W, and both
 --   Lawful      a window of 0, 1, 65,535 and 65,536, cores 0, 1, 8 and 9 of each kind, 64 and 65 jobs, a job that is not legal
---   legal_of     the same limits by the checks, each with its number and its place
+--   legal_of    the same limits by the checks, each with its number and its place
 -- That LegalJob and Lawful say exactly what the checks let pass is in Lawful.antt. Assumes nothing.
 use mathlib.Core.List.{[], ◌∷◌, map}
 use mathlib.Core.Path.{◌≡◌, refl}

@@ -2,16 +2,16 @@
 -- would let every theorem over it pass, or leave only a proof script to object. So each clause has here an example exactly at its limit, and one
 -- that is wrong by one in this clause and in no other, and is refuted; its name ends in `-not`. A slip in the clause makes one of the two false.
 -- The window is 10, and 2 where a tick is halved. The lines that are held, in this order:
---   Limits                              the numbers of docs/SPEC.md
---   room_refusal                         each of its four numbers, and those beside them
+--   Limits                                the numbers of docs/SPEC.md
+--   room_refusal                          each of its four numbers, and those beside them
 --   cores_of, room_of                     each kind by its own count
---   Inside                              some, ends, core, job
---   Runs, Apart                         the first tick, the last, and the one behind it
---   SameCore                            the kind and the number
---   Timetable                           served, inside, cores, jobs; the first job and the last
---   DoneBy                              work, window, the other kind; in whole ticks and in fifths
---   AllDone                             a share for each job
---   WholeSplit, Split                   rooms exactly full, some, what fractions add
+--   Inside                                some, ends, core, job
+--   Runs, Apart                           the first tick, the last, and the one behind it
+--   SameCore                              the kind and the number
+--   Timetable                             served, inside, cores, jobs; the first job and the last
+--   DoneBy                                work, window, the other kind; in whole ticks and in fifths
+--   AllDone                               a share for each job
+--   WholeSplit, Split                     rooms exactly full, some, what fractions add
 --   is_mover, is_even, movers, unevens    what counts, and what does not
 --   cost_on, jobs_in, seen                each way to be a job, and what is written as 0 and 0
 --   pack_of, slice_in                     each byte at its limit

@@ -5,7 +5,7 @@
 --   job_at       the job of its two costs, with 0 where a kind is not allowed
 --   jobs_in      the jobs of two columns of costs
 --   cost_on      what a column has of a job: its cost on the kind, and 0 where it is not allowed there or where its other cost is 0
---   costs       the column of a kind: a cost for each job, and 0 behind
+--   costs        the column of a kind: a cost for each job, and 0 behind
 --   shares_in    the shares that two columns of ticks are
 -- A job on both kinds that has a cost of 0 is none that two costs can say: it is written as 0 and 0, the job on the first kind that costs
 -- nothing. Refusal 4 refuses both at the same place, and every other job is the one that its columns say (crate legal, proofs/Seen.antt).

@@ -1,5 +1,5 @@
 -- The rows of a table of shares that a caller lends, and the ticks that they say.
---   row_of        the row of a job's ticks
+--   row_of         the row of a job's ticks
 --   ticks_of_row   the ticks that a row says
 -- Assumes nothing.
 use Rattle.model.specs.Split.{Ticks, share}

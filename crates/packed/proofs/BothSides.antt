@@ -2,7 +2,7 @@
 --   packed_of      every byte, of numbers of two bytes the high one first; packed_most
 --   is_packed      a byte too few and one too many; the first byte of the board, of the first row and of the last; kinds 0 to 3; no row, no byte
 --   packed_asked   the first and the last tick of a row, and those around them; the first of two rows; 9 before 11; the window's last tick, its end
---   packs, laid   a table's refusal before that of too few bytes; just enough bytes, and one less; bytes past the count; no change by a refusal
+--   packs, laid    a table's refusal before that of too few bytes; just enough bytes, and one less; bytes past the count; no change by a refusal
 -- It stands first, so that a definition that is made weaker is refused at an example. Assumes nothing.
 use mathlib.Core.List.{List, [], ◌∷◌, ◌++◌}
 use mathlib.Core.Path.{◌≡◌, refl}

@@ -11,9 +11,9 @@
 --   slice_of       the slice of its record
 --   rows_in        the rows
 --   packed_asked   the answer on packed bytes: refusal 9 where they are none, then 11, then what runs
---   packs         what packing a table answers: the count of the bytes, or the refusal of the table or of too few bytes
---   laid          lent bytes with new ones at their front where an answer gives a count; where it is a refusal they stay
---   Packs         what packing promises: the answer, and every lent byte
+--   packs          what packing a table answers: the count of the bytes, or the refusal of the table or of too few bytes
+--   laid           lent bytes with new ones at their front where an answer gives a count; where it is a refusal they stay
+--   Packs          what packing promises: the answer, and every lent byte
 -- Assumes nothing.
 use Rattle.std.specs.Prelude.{Bool, cond, not, ◌&&◌, ◌||◌, List, [], ◌∷◌, ◌++◌, ◌≡◌, ℕ, ◌+◌, ◌-◌, ◌*◌, ◌/◌, ◌%◌, eqb, ltb, length, take, drop}
 use Rattle.rows.specs.Lists.{lowest, front}

@@ -1,7 +1,7 @@
 -- Internal: no public promise cites this. The plan by value, from which `plan` writes rows into lent tables and `moves` counts moves.
 --   no_rows   a refusal, and no rows to be written
 --   fit_of    what is planned, for tables of m shares and k slices: refusal 7 where one has too few rows, and else the rows that it counts
---   Filled   the plan of a set for such tables: the answer, and columns of which the first numbers are the rows to be written
+--   Filled    the plan of a set for such tables: the answer, and columns of which the first numbers are the rows to be written
 -- Assumes nothing.
 use Rattle.std.specs.Prelude.{cond, ◌||◌, List, ◌≡◌, ℕ, ◌≤◌, ltb, length}
 use Rattle.model.specs.Columns.{shares_in}

@@ -7,7 +7,7 @@
 --   TooLong       line 5, of one job: all its costs on the kinds that it may use are above W
 --   LowestOf      a job of the set of which something holds that holds of none before it
 --   Sound         a board to which lines 1 and 2 do not apply
---   steps_on       what the steps of the split answer, on the rooms of a board
+--   steps_on      what the steps of the split answer, on the rooms of a board
 --   ShortTables   tables of m shares and k slices that may be too short: m is below the count of jobs, or k below the most slices of a plan
 --                 of them
 --   Listed        a refusal of the jobs js on a board, for tables of m shares and k slices

@@ -1,7 +1,7 @@
 -- The moves of a planned set: docs/SPEC.md, "Moves". A refused set gets its refusal instead.
---   moves_in         the moves of each job of a plan, by number: none where the set is refused
---   no_moves         what stands in rows that are not used
---   roomy_plan       the plan of a set, for tables that are long enough for every set
+--   moves_in        the moves of each job of a plan, by number: none where the set is refused
+--   no_moves        what stands in rows that are not used
+--   roomy_plan      the plan of a set, for tables that are long enough for every set
 --   MovesPromised   what the call for moves promises: what the planning call answers, and every row
 -- Assumes nothing.
 use Rattle.std.specs.Prelude.{List, [], ◌++◌, ◌≡◌, ℕ, ◌-◌, length, replicate}

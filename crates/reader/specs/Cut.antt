@@ -10,7 +10,7 @@
 --   head_digits   the digits of those before the costs
 --   cost_digits   the digits of a cost
 --   size_in       how many bytes there are, and 0 where none are spelled
---   CutAt        what cutting promises of a text from a place on: how many bytes its first line spells, the numbers of its digits, where they end
+--   CutAt         what cutting promises of a text from a place on: how many bytes its first line spells, the numbers of its digits, where they end
 -- proofs/Cuts.antt has what it says of the line's bytes. Assumes nothing.
 use Rattle.std.specs.Prelude.{cond, List, [], ◌∷◌, ◌≡◌, ℕ, suc, ◌+◌, ◌*◌, eqb, length, take, drop, get_or}
 use Rattle.text.specs.Hex.{Maybe, none, some, nibble_of, bytes_of}

@@ -5,21 +5,21 @@
 --   record_says    the entry of line i's record, or refusal 9
 --   bytes_say      the entry of line i's bytes, or refusal 8
 --   line_says      the entry of line i, or refusal 8 or 9
---   Input         a board and its jobs
+--   Input          a board and its jobs
 --   as_board       the board of an entry, or refusal 10
 --   as_job         the job of an entry: refusal 10 for a board, refusal 3 for one job too many
 --   jobs_from      the jobs of the lines after the first
 --   input_from     the board and the jobs of lines, or the refusal of the first bad one
 --   input_of       a text's board and jobs, or the refusal of its first bad line
---   Head          a board, and how many jobs it has
+--   Head           a board, and how many jobs it has
 --   head_of        an answer's board and the number of its jobs
 --   jobs_given     an answer's jobs, and none where it is a refusal
 --   says_reading   what the code's answer says: a head, or a refusal
---   short         whether columns of m1 and m2 rows are too short for some set
+--   short          whether columns of m1 and m2 rows are too short for some set
 --   in_columns     an answer for such columns: refusal 7, last of all, where they are too short
 --   read_of        what a text says for such columns
---   Gives         an answer of the code that says what a set gives, and every row of both columns after it
---   Reads         the reader's answer: what its text says
+--   Gives          an answer of the code that says what a set gives, and every row of both columns after it
+--   Reads          the reader's answer: what its text says
 -- Assumes nothing.
 use Rattle.std.specs.Prelude.{Bool, cond, ◌&&◌, ◌||◌, List, [], ◌∷◌, map, ◌≡◌, ℕ, ◌+◌, ◌≤◌, eqb, ltb, length}
 use Rattle.rows.specs.Lists.{front}

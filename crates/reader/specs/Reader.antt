@@ -1,16 +1,16 @@
 -- Internal: no public promise cites this. What the reader's functions promise each other.
---   is_there      whether nothing is missing
---   value_of      a digit's value as the code has it: 16 where there is none
---   is_end        whether a line ends here: at the end of the text, or at a line feed
+--   is_there     whether nothing is missing
+--   value_of     a digit's value as the code has it: 16 where there is none
+--   is_end       whether a line ends here: at the end of the text, or at a line feed
 --   Spells       a run of digits, as many as are asked for or as there are: its number, and where it ends
 --   Numbered     the numbers of a line's digits, cut as those of a job are, and where they end
 --   HoldsRecord  the numbers of a record of so many bytes, cut as a job is
---   says_line     what the code's answer on a line says
+--   says_line    what the code's answer on a line says
 --   SaysRecord   an answer on a line that is what its record says, told by its numbers
 --   Costs        what a job costs on each kind, as columns have it
---   costs_said    of an answer that gives a job, what the job costs
---   says_row      what the code's answer on the line of a job says
---   set_from      what the lines after the board's give
+--   costs_said   of an answer that gives a job, what the job costs
+--   says_row     what the code's answer on the line of a job says
+--   set_from     what the lines after the board's give
 --   GivesIn      an answer of the code that says what a set gives, as columns of their lengths get it
 -- Assumes nothing.
 use Rattle.std.specs.Prelude.{Bool, true, false, List, [], ◌∷◌, ◌≡◌, ℕ, ◌+◌, ◌<◌, eqb, length, take, drop}

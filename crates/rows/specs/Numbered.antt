@@ -1,8 +1,8 @@
 -- Internal: no public promise cites this. Elements that are taken with their numbers.
---   each       a function of each element of a list and its number
+--   each        a function of each element of a list and its number
 --   sum_each    the sum of a number of each element and its number
 --   sum_below   the sum of a number of each number below n
---   LowestIn   the number of an element of which a fact holds that holds of none before it; d is what stands past the list's end
+--   LowestIn    the number of an element of which a fact holds that holds of none before it; d is what stands past the list's end
 -- Assumes nothing.
 use Rattle.std.specs.Prelude.{List, [], ◌∷◌, ℕ, zero, suc, ◌+◌, ◌<◌, length, get_or}
 use Rattle.rows.specs.Lists.{sum_of}

@@ -1,6 +1,6 @@
 -- Both sides of the lines that this crate's theorems and definitions draw, as model/proofs/BothSides.antt has them for the model: examples exactly
 -- at a limit, and such as are wrong by one there and nowhere else. The lines that are held, in this order:
---   Fits      no uneven mover, one, and two; a job's two shares within the window; each kind within its room; a window at all
+--   Fits       no uneven mover, one, and two; a job's two shares within the window; each kind within its room; a window at all
 --   moves_of   no slice, one, two and three; a change of kind and one of core, inside the window and at its end; slices by start
 -- Assumes nothing.
 use mathlib.Core.List.{List, [], ◌∷◌}

@@ -1,6 +1,6 @@
 -- Internal: no public promise cites this. The theorems about moves do (proofs/JobMoves.antt).
 --   slices_for   how many slices a job has
---   singles     how many of the jobs below n have exactly one
+--   singles      how many of the jobs below n have exactly one
 -- Assumes nothing.
 use Rattle.std.specs.Prelude.{cond, List, ℕ, eqb}
 use Rattle.rows.specs.Lists.{count_of}

@@ -1,16 +1,16 @@
 -- The moves of a job, round the window's end: docs/SPEC.md, "Moves".
 --   same_job    a row of the same job as a slice
 --   is_before   a row of the same job that starts before a slice
---   later      of the slice found so far and a row, the one that starts later
+--   later       of the slice found so far and a row, the one that starts later
 --   later_if    the same, where the row counts
---   latest     of the slice found so far and the rows of which a test holds, the one that starts last
+--   latest      of the slice found so far and the rows of which a test holds, the one that starts last
 --   or_else     what was found, or another slice where nothing was
 --   before_of   the slice before: of the rows of the same job that start before it, the one that starts last, and where there is none, the
---              one that starts last of all, since the window repeats
+--               one that starts last of all, since the window repeats
 --   is_outer    a slice on another kind than the one before
 --   is_inner    a slice on another core of the same kind than the one before
---   counted    a slice of a job of which, with the slice before it, a test holds
---   moves      so many outer moves, and so many inner ones
+--   counted     a slice of a job of which, with the slice before it, a test holds
+--   moves       so many outer moves, and so many inner ones
 --   moves_of    the outer and the inner moves of a job
 -- Assumes nothing.
 use Rattle.std.specs.Prelude.{Bool, false, cond, not, ◌&&◌, List, [], ◌∷◌, ℕ, eqb, ltb}

@@ -2,15 +2,15 @@
 -- crate: placing is not public yet.
 -- On each kind the shares stand one behind the other, as runs of positions: position p is tick p % W of core p / W on the first kind,
 -- and tick W − 1 − p % W on the second, which is packed backward. A run that passes the edge of a core is cut there.
---   Piece        a job and its ticks on a kind
+--   Piece         a job and its ticks on a kind
 --   even_mover    a mover that uses the whole window
 --   other_mover   a mover that does not
---   alone        a share on this kind only
---   chosen       the jobs, numbered from i, of which a test holds, with their ticks on a kind
+--   alone         a share on this kind only
+--   chosen        the jobs, numbered from i, of which a test holds, with their ticks on a kind
 --   pieces_of     what stands on a kind, in order: the even movers, the mover that is not even, and those that are on this kind only
 --   slice_of      the slice of a job at a place of a core, counted in the kind's direction
 --   cut_of        the one or two slices of a run that begins at a position
---   packed       the slices of pieces, one behind the other
+--   packed        the slices of pieces, one behind the other
 --   table_of      all slices of the first kind, then those of the second
 -- Assumes nothing.
 use Rattle.std.specs.Prelude.{Bool, cond, not, ◌&&◌, List, [], ◌∷◌, ◌++◌, ℕ, ◌+◌, ◌-◌, ◌/◌, ◌%◌, leb, ltb}

@@ -1,12 +1,12 @@
 -- Both sides of the lines of the split's promise, as model/proofs/BothSides.antt has them for the model: examples exactly at a limit, and
 -- such as are wrong by one there and nowhere else. The lines that are held, in this order:
 --   stretched_at   a cost of W and one more, on either kind, on both and on neither; a job on one kind
---   smaller       one tick fewer for each stretched job, on its home
---   Accepted      rooms exactly full, each kind by its own; no uneven mover, one, and two; as many movers as cores. That few-movers cannot fail by
---                 itself is movers-few of the model, so no example is wrong in it alone
---   Demands       a refusal for room with the slack, where the smaller board has a split and where it just has none
---   Exactly       a refusal where there is a split, and shares where there is none
---   RoomCause     for each of its numbers the tick that makes the difference; the kinds
+--   smaller        one tick fewer for each stretched job, on its home
+--   Accepted       rooms exactly full, each kind by its own; no uneven mover, one, and two; as many movers as cores. That few-movers cannot fail by
+--                  itself is movers-few of the model, so no example is wrong in it alone
+--   Demands        a refusal for room with the slack, where the smaller board has a split and where it just has none
+--   Exactly        a refusal where there is a split, and shares where there is none
+--   RoomCause      for each of its numbers the tick that makes the difference; the kinds
 -- Assumes nothing.
 use mathlib.Core.Bool.{false≢true}
 use mathlib.Core.List.{List, [], ◌∷◌, map}

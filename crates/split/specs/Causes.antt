@@ -1,14 +1,14 @@
 -- Internal: no public promise cites this. The theorems on the pages of demands do, so read it with them.
 -- Why a legal set is refused for room, number by number: docs/SPEC.md, "The steps". The causes are over the jobs at home, the far ends and the
 -- rooms; the last one also looks at where the steps stopped. That a set is refused exactly so is `refused-for-room` in proofs/Causes.antt.
---   keeps       the ticks that a row keeps on the kind that is looked from, if it goes to its far end where it can be moved
+--   keeps        the ticks that a row keeps on the kind that is looked from, if it goes to its far end where it can be moved
 --   far_ticks    the ticks of a kind with all its movable jobs at their far ends
 --   stopped_on   the rows where the steps from a kind stopped
---   BothOver    both kinds are over at home
---   OneOver     a kind is over at home, and the other is within its room
---   StillOver   so it is, and over with all its movable jobs at their far ends too
---   OtherOver   so it is, and within its room with these at their far ends, but the other is over where the steps stopped
---   RoomCause   a refusal for room, by number and place, with its cause
+--   BothOver     both kinds are over at home
+--   OneOver      a kind is over at home, and the other is within its room
+--   StillOver    so it is, and over with all its movable jobs at their far ends too
+--   OtherOver    so it is, and within its room with these at their far ends, but the other is over where the steps stopped
+--   RoomCause    a refusal for room, by number and place, with its cause
 -- Assumes nothing.
 use Rattle.std.specs.Prelude.{cond, List, ℕ, ◌≤◌, ◌<◌, length}
 use Rattle.rows.specs.Lists.{sum_of}

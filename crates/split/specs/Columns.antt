@@ -3,32 +3,32 @@
 --   no_row      a row of zeros, which no job has: what a list of rows has past its end
 --   word_most   the greatest number of 32 bits, which a row's ticks have
 --   sum_most    what the ticks of all rows come to at most
---   Summed     two sums are the ticks of all rows here and there, and small
---   Movable    what holds of a row that can be moved
---   Ready      each row that can be moved is movable: what the steps are given
---   Asks       what one step is given
+--   Summed      two sums are the ticks of all rows here and there, and small
+--   Movable     what holds of a row that can be moved
+--   Ready       each row that can be moved is movable: what the steps are given
+--   Asks        what one step is given
 --   row_at      the row of four numbers: it can be moved where its near cost is above 0
 --   row_in      the row of a number in four columns
 --   rows_in     the rows of four columns
---   bare       a row without the near cost that it no longer needs: what a column keeps of it
+--   bare        a row without the near cost that it no longer needs: what a column keeps of it
 --   mark_of     the near cost that is left of a job at home: 0 where it cannot be moved
 --   marks_in    the same of all jobs of two columns
 --   best_of     the code's way to write a row that comes next: its number and costs, or the count of the rows, 0 and 1
 --   better_of   the better of the one found so far and a row, by the products alone
---   Small      the costs of the one found so far have 32 bits
---   Found      the one found is the next of all rows with these costs, whatever their ticks
+--   Small       the costs of the one found so far have 32 bits
+--   Found       the one found is the next of all rows with these costs, whatever their ticks
 --   gone_to     where one step takes a row at home, by its costs
 --   end_of      the ticks of a row here and there, as the code passes them
---   far_end_of   the far end of a job, as the code passes it
---   Advanced   a step on one row: what is stored, and the sums after it
---   Stepped    the steps on the first n rows: the rows and the sums after them
+--   far_end_of  the far end of a job, as the code passes it
+--   Advanced    a step on one row: what is stored, and the sums after it
+--   Stepped     the steps on the first n rows: the rows and the sums after them
 --   home_at     a job of two columns of costs at home, seen from a kind
---   GoneHome   the first n jobs at home: what is stored, and the sums
+--   GoneHome    the first n jobs at home: what is stored, and the sums
 --   says_ended  what the code's answer to a legal set says, with its two columns, as an answer by number and place
 --   ended_of    the code's answer where the steps from a kind are over, by whether each kind is within its room
---   Relieved   the answer where the steps from a kind are over
---   Answered   the answer to a legal set
---   none       a refusal's result: no shares
+--   Relieved    the answer where the steps from a kind are over
+--   Answered    the answer to a legal set
+--   none        a refusal's result: no shares
 -- Assumes nothing.
 use Rattle.std.specs.Prelude.{Bool, true, false, cond, List, ◌++◌, map, ◌≡◌, ℕ, ◌+◌, ◌*◌, ◌≤◌, ◌<◌, ◌^◌, ltb, eqb, length, get_or, set, drop, replicate}
 use Rattle.rows.specs.Upto.{upto, at}

@@ -1,11 +1,11 @@
 -- Where a job is at home, which jobs are stretched, and the far end: docs/SPEC.md, "Where the split starts" and "How far a job can be
 -- moved". A job is seen from a kind, as a row.
---   ceil             a quotient, rounded up
---   home_on           whether a job on both kinds is at home on a kind: the only rule in which the kinds differ
---   both_row          the row of a job on both kinds, at home here or there
---   only_row          the row of a job on one kind alone, this one or the other
---   at_home           a job at home, seen from a kind
---   stretched_at      1 for a stretched job whose home is a kind, else 0
+--   ceil               a quotient, rounded up
+--   home_on            whether a job on both kinds is at home on a kind: the only rule in which the kinds differ
+--   both_row           the row of a job on both kinds, at home here or there
+--   only_row           the row of a job on one kind alone, this one or the other
+--   at_home            a job at home, seen from a kind
+--   stretched_at       1 for a stretched job whose home is a kind, else 0
 --   keep_of, give_of   the far end: the ticks that the job keeps at home, and those that it has on the other kind
 -- Assumes nothing.
 use Rattle.std.specs.Prelude.{Bool, true, false, cond, ◌&&◌, ℕ, ◌+◌, ◌-◌, ◌*◌, ◌/◌, leb, ltb}

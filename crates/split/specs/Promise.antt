@@ -1,6 +1,6 @@
 -- What the split promises beyond its steps: the shares' half of demand 2, and demand 3 (docs/SPEC.md, "What is promised of every set"), over
 -- what a split is.
---   stretched_on    how many stretched jobs have their home on a kind
+--   stretched_on   how many stretched jobs have their home on a kind
 --   smaller        the room of a kind, with one tick fewer for each of them
 --   SplitOn        a split of the jobs on the whole board
 --   SmallerSplit   a split of the jobs on the board with the smaller rooms

@@ -1,21 +1,21 @@
 -- The split of a set, and the starting balance: docs/SPEC.md, "The steps" and "Where the split starts".
 --   share_of, shares_seen   the share of a row that a kind sees, and the shares of all
 --   home_rows, home_ticks   all jobs at home, seen from a kind, and their ticks on it
---   both_over              refused: both kinds are over at home
---   still_over             refused: the kind that was over is so with its movable jobs at their far ends too
---   other_over             refused: that kind is within its room, and the other is not
---   settled               the answer where the steps from a kind are over
---   relieved              the answer where a kind is over at home, and the other is not
---   by_over                the answer, by whether the first kind is over at home and whether the second is
---   split_of               the split of a legal set over two rooms, or a refusal for room
---   shares_of              the same of any set: checks 1 to 5 come first
---   balance_on             what a kind has left before any job is moved
---   balance_of             the starting balance of each kind, of any legal set
---   says_outcome           what an outcome says, with its two columns, as an answer by number and place
---   says_shared            the same of the outcome and the columns together
---   rows_of                how many rows an outcome counts
---   Answers               a result of the code that says so, with zeros in every row that it does not count
---   says_balanced          what the code's balance says, as an answer by number and place
+--   both_over               refused: both kinds are over at home
+--   still_over              refused: the kind that was over is so with its movable jobs at their far ends too
+--   other_over              refused: that kind is within its room, and the other is not
+--   settled                 the answer where the steps from a kind are over
+--   relieved                the answer where a kind is over at home, and the other is not
+--   by_over                 the answer, by whether the first kind is over at home and whether the second is
+--   split_of                the split of a legal set over two rooms, or a refusal for room
+--   shares_of               the same of any set: checks 1 to 5 come first
+--   balance_on              what a kind has left before any job is moved
+--   balance_of              the starting balance of each kind, of any legal set
+--   says_outcome            what an outcome says, with its two columns, as an answer by number and place
+--   says_shared             the same of the outcome and the columns together
+--   rows_of                 how many rows an outcome counts
+--   Answers                 a result of the code that says so, with zeros in every row that it does not count
+--   says_balanced           what the code's balance says, as an answer by number and place
 -- Assumes nothing.
 use Rattle.std.specs.Prelude.{◌≡◌, Bool, true, false, cond, List, map, ℕ, ◌-◌, ◌≤◌, leb, ltb, ℤ, pos, ◌-ℤ◌, length, drop, replicate}
 use Rattle.model.specs.Board.{on, room_of}

@@ -1,13 +1,13 @@
 -- The steps: docs/SPEC.md, "The steps". They speak of rows and never of a kind.
 --   here_sum, there_sum   the ticks of all rows on the kind that is looked from, and on the other
---   ahead               near/far of a row is greater than another's, by cross products
---   better              the row to be moved first: the one found so far, or a row of a given number
---   next_from            the one found so far, or a row of a list that is numbered from a given number
---   next_of              the row to be moved next: the movable one of greatest near/far, of equal ones the lowest
---   put                 a row that was moved, with its ticks here and there
---   moved_of             one step: where a row goes
---   step_of              the rows after a step, where some row comes next
---   steps_of             the steps, until the ticks here are within the room or no row can be moved
+--   ahead                 near/far of a row is greater than another's, by cross products
+--   better                the row to be moved first: the one found so far, or a row of a given number
+--   next_from             the one found so far, or a row of a list that is numbered from a given number
+--   next_of               the row to be moved next: the movable one of greatest near/far, of equal ones the lowest
+--   put                   a row that was moved, with its ticks here and there
+--   moved_of              one step: where a row goes
+--   step_of               the rows after a step, where some row comes next
+--   steps_of              the steps, until the ticks here are within the room or no row can be moved
 -- Assumes nothing.
 use Rattle.std.specs.Prelude.{Bool, false, cond, List, [], ◌∷◌, ℕ, zero, suc, ◌+◌, ◌-◌, ◌*◌, leb, ltb, set}
 use Rattle.rows.specs.Lists.{sum_of}

@@ -1,7 +1,7 @@
 -- Lines of hexadecimal: docs/SPEC.md, "The text". A record is a list of bytes, and stands in a line of its own.
---   joined       a byte at the front of the first of some lines
+--   joined        a byte at the front of the first of some lines
 --   lines_of      the lines of a text: each ends at a line feed, and the last may lack it
---   Maybe        what may be missing
+--   Maybe         what may be missing
 --   nibble_of     the value of a hexadecimal digit, small or capital
 --   byte_of       the byte of two digits' values
 --   at_front      a byte at the front of bytes, where none is missing

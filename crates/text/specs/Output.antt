@@ -7,10 +7,10 @@
 --   refused_records   the record of a refusal, and no other
 --   plan_text         a plan's records as bytes of a text
 --   refused_text      a refusal's
---   writes           what a writer answers: the count of the bytes, or the refusal of a lent text that is too short
---   written          a lent text with bytes at its front; where it is too short for them it stays
+--   writes            what a writer answers: the count of the bytes, or the refusal of a lent text that is too short
+--   written           a lent text with bytes at its front; where it is too short for them it stays
 --   says_written      what the code's answer says
---   Writes           what a writer promises: its answer, and every byte of the lent text
+--   Writes            what a writer promises: its answer, and every byte of the lent text
 --   answer_most       the most bytes that an answer has
 -- Assumes nothing.
 use Rattle.std.specs.Prelude.{cond, List, [], ◌∷◌, ◌++◌, map, ◌≡◌, ℕ, ◌+◌, ◌*◌, ltb, length}

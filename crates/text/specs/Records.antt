@@ -1,6 +1,6 @@
 -- The records of the text, each written out here and nowhere else: docs/SPEC.md, "The text". A record is a first byte, which tells what it is, and
 -- then its fields: numbers, each in so many bytes, the high byte first.
---   Form          what a record looks like: its first byte, and the bytes that each of its fields has
+--   Form           what a record looks like: its first byte, and the bytes that each of its fields has
 --   board_form     W, the cores of the first kind, those of the second
 --   job_form       the kinds that are allowed (0 both, 1 first, 2 second), the cost on the first kind, that on the second
 --   counts_form    the jobs of a plan, its slices
@@ -9,11 +9,11 @@
 --   refusal_form   a refusal's number, its place
 --   size_of        the bytes of a record
 --   line_size      the bytes of its line: two digits for each of those, and a line feed
---   spelled       numbers in fields of given bytes
+--   spelled        numbers in fields of given bytes
 --   record_of      the record with given numbers in its fields
 --   is_a           whether bytes are such a record, by the first of them and by how many they are
 --   fields_in      the numbers in fields of given bytes
---   field         the number in a field of a record, the first field being field 0
+--   field          the number in a field of a record, the first field being field 0
 --   board_in       the board of its record
 -- Assumes nothing.
 use Rattle.std.specs.Prelude.{Bool, ◌&&◌, List, [], ◌∷◌, ◌++◌, ℕ, ◌+◌, ◌*◌, eqb, length, take, drop, get_or}
