@@ -54,17 +54,19 @@ sources_after() {
 }
 
 # static_library: writes target/staticlib/libclampfern.a, the archive of crate clampfern_c, where it is not newer than every source already. Behind
-# `rt ci` (.ci/run) it is made over the libraries that this proved and left, as `rt lib` would prove them once more.
+# `rt ci` (.ci/run) it is made over the libraries that this proved and left, as `rt lib` would prove them once more. A library that another command
+# made has a stamp, which tells what it was made of, and which `rt lib` alone reads; `rt ci` leaves none, and puts such libraries back.
 static_library() {
-    local library=target/staticlib/libclampfern.a name below=() words=()
+    local library=target/staticlib/libclampfern.a name below=() words=() left=yes
     sources_after $library || return 0
     mkdir -p target/staticlib || return
+    ! sources_after target/ci.log || left=no
     read -ra below < <(sed -nE 's/^clampfern_c staticlib: //p' crates.txt)
     for name in "${below[@]}"; do
-        [ -d "crates/$name/out/rlib/$name.rlib" ] || continue
+        [ -d "crates/$name/out/rlib/$name.rlib" ] && [ ! -e "crates/$name/out/rlib/stamp" ] || left=no
         words+=(--extern "$name=crates/$name/out/rlib/$name.rlib" -L "dependency=crates/$name/out/rlib")
     done
-    if sources_after target/ci.log || [ ! -d crates/clampfern/out/rlib/clampfern.rlib ]; then
+    if [ "$left" = no ]; then
         (cd crates/clampfern_c && quietly rt lib) && cp crates/clampfern_c/out/libclampfern_c.a $library
     else
         quietly "$kit/bin/rattle" build --crate-name clampfern_c --crate-type staticlib crates/clampfern_c/src/lib.rt \

@@ -15,7 +15,5 @@ pub mod ShareRow
 pub mod Columns
 -- A slice is read back from its number.
 pub mod Packed
--- A product of two numbers of 32 bits fits 64.
-pub mod Product
 -- Each promise allows one result: no promise needs this; the laws of it serve the same theorems of the crates above.
 pub mod Determined

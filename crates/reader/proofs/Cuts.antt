@@ -1,6 +1,6 @@
 -- What a cut line says of the bytes that the line spells. The idea: its digits are the line's where it spells some, two for each byte. Assumes
 -- nothing.
-use mathlib.Core.Bool.{true, false}
+use mathlib.Core.Bool.{true}
 use mathlib.Core.List.{List, [], ◌∷◌}
 use mathlib.Core.Path.{◌≡◌, refl, sym, ap, ◌∙◌}
 use Prim.Native.Nat.{ℕ, ◌+◌, ◌-◌, ◌/◌, ◌≤◌, ◌<◌}
@@ -17,13 +17,6 @@ use Rattle.reader.proofs.Digits.{digits-fit, or_empty, line-ends, numbers-hold}
 
 -- The size of the bytes that a line spells, by its digits.
 module _ (rest : List ℕ) where
-  pub size_none : is_there (bytes_of (line_in rest)) ≡ false → 0 ≡ size_in (bytes_of (line_in rest))
-  size_none e = go (bytes_of (line_in rest)) e
-    where
-      go : (m : Maybe (List ℕ)) → is_there m ≡ false → 0 ≡ size_in m
-      go none e = refl
-      go (some bs) e = never (cc)
-
   pub size-some : (from : ℕ) (line : Numbers) → Numbered (digits_in rest) from line → is_there (bytes_of (line_in rest)) ≡ true
       → (line.end - from) / 2 ≡ size_in (bytes_of (line_in rest))
   size-some from line n there = (numbers-hold rest there from line n).size_is ∙ go (bytes_of (line_in rest)) there

@@ -16,7 +16,5 @@ pub mod Upto
 pub mod Numbered
 -- A walk over the first n of a list, and the table that it fills.
 pub mod Walk
--- A field that is an array of a declared type, at its elements: for code that lends tables of records.
-pub mod Fields
 -- What two different constructors prove that are said to be one: anything.
 pub mod Never

@@ -63,11 +63,6 @@ homes-fit w n c1 c2 legal i l =
     let js : ℕ → Job = λ k. job_at (at c1 k) (at c2 k) in
     home_fits w (js i) (rw (upto-at n js (js i) i l) at (all-at (LegalJob w) (js i) (jobs_in n c1 c2) i (omega (arith, upto-length n js)) legal))
 
-pub legal-longer : (w v : ℕ) → w ≤ v → (j : Job) → LegalJob w j → LegalJob v j
-legal-longer w v h (Both c1 c2) legal = (legal.0, legal.1, omega arith, legal.3, legal.4)
-legal-longer w v h (OnlyFirst c1) legal = (legal.0, omega arith, legal.2)
-legal-longer w v h (OnlySecond c2) legal = (legal.0, omega arith, legal.2)
-
 home-sides : (j : Job) → ((at_home First j).there ≡ (at_home Second j).here) × ((at_home Second j).there ≡ (at_home First j).here)
 unfolding at_home
 home-sides (Both c1 c2) = go (leb c1.0 c2.0) refl

@@ -111,10 +111,10 @@ settled-bare k room away rs = rw (bare-here rs, bare-there rs, shares-bare k rs)
 pub settled-alike : (k : Kind) (room away : ℕ) (rs ss : List Row) → Alike rs ss → settled k room away rs ≡ settled k room away ss
 settled-alike k room away rs ss e = sym (settled-bare k room away rs) ∙ ap (settled k room away) e ∙ settled-bare k room away ss
 
-get_d-bare : (rs : List Row) (i : ℕ) → get_or (map bare rs) i no_row ≡ bare (get_or rs i no_row)
-get_d-bare [] i = refl
-get_d-bare (r ∷ rs) zero = refl
-get_d-bare (r ∷ rs) (suc i) = get_d-bare rs i
+get_or-bare : (rs : List Row) (i : ℕ) → get_or (map bare rs) i no_row ≡ bare (get_or rs i no_row)
+get_or-bare [] i = refl
+get_or-bare (r ∷ rs) zero = refl
+get_or-bare (r ∷ rs) (suc i) = get_or-bare rs i
 
 movable-bare : (w : ℕ) (r : Row) → r.movable ≡ true → Movable w r → Movable w (bare r)
 movable-bare w r m h = record {
@@ -127,6 +127,6 @@ movable-bare w r m h = record {
 
 pub ready-bare : (w : ℕ) (rs : List Row) → Ready w rs → Ready w (map bare rs)
 ready-bare w rs ready i l m =
-    let e = get_d-bare rs i in
+    let e = get_or-bare rs i in
     let m' : (get_or rs i no_row).movable ≡ true = rw e at m in
     rw e (movable-bare w (get_or rs i no_row) m' (ready i (rw length-map at l) m'))
