@@ -19,7 +19,7 @@ libraries=(model text kernel clampfern clampfern_c)
 all=$((2 * ${#libraries[@]} + 1)) # each library and its edit, and the program
 (
     cd "$room/whole" || exit
-    printf '%s:\n' "${libraries[@]}" plan | sed 's/^clampfern_c:/clampfern_c staticlib:/' >crates.txt
+    printf '%s:\n' "${libraries[@]}" plan | sed 's/^clampfern_c:/clampfern_c staticlib: clampfern/' >crates.txt
     mkdir -p crates/plan/src && touch crates/plan/src/main.rt
     for crate in "${libraries[@]}"; do
         mkdir -p "crates/$crate/must-fail" target
@@ -216,6 +216,18 @@ fails 'README.md has another example than examples/two-jobs.plan.txt' 'sed -i "/
 fails 'docs/SPEC.md has another example than examples/two-jobs.txt' 'sed -i "/^    01/d" docs/SPEC.md'
 fails 'the input of plan has another example' 'echo >>crates/plan/stdin'
 fails 'the output of plan has another example' ': >crates/plan/stdout'
+
+# ---- the archive: over the libraries that `rt ci` left, and by `rt lib` where these are not all of today's sources
+# left HOW: libraries that `rt ci` left behind every source, and a compiler of the kit that writes its output, or (`broken`) ends with 1.
+left() {
+    mkdir -p crates/clampfern/out/rlib/clampfern.rlib kit/bin && touch -d tomorrow target/ci.log &&
+        printf '%s\n' '#!/bin/sh' "[ $1 != broken ] || exit 1" 'while [ "$1" != -o ]; do shift; done' 'touch "$2"' >kit/bin/rattle && chmod +x kit/bin/rattle
+}
+passes tests/example.sh '' 'left whole && rm crates/clampfern_c/out/libclampfern_c.a'
+fails 'FAILED (1)' 'left broken'
+passes tests/example.sh '' 'left broken && touch crates/clampfern/out/rlib/stamp'
+passes tests/example.sh '' 'left broken && touch -d "2 days" crates/clampfern/src/lib.rt'
+passes tests/example.sh '' 'left broken && rm -r crates/clampfern/out/rlib/clampfern.rlib'
 
 # ---- the stack: a push, 16 bytes, two return addresses and 24 bytes below the pointer
 passes tests/stack.sh 'clampfern_plan 64 bytes, clampfern_tick 8 bytes, clampfern_pack 8 bytes, clampfern_packed_tick 8 bytes, planner::plan 40 bytes'

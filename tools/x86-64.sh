@@ -60,8 +60,8 @@ static_library() {
     local library=target/staticlib/libclampfern.a name below=() words=() left=yes
     sources_after $library || return 0
     mkdir -p target/staticlib || return
-    ! sources_after target/ci.log || left=no
     read -ra below < <(sed -nE 's/^clampfern_c staticlib: //p' crates.txt)
+    [ "${#below[@]}" != 0 ] && ! sources_after target/ci.log || left=no
     for name in "${below[@]}"; do
         [ -d "crates/$name/out/rlib/$name.rlib" ] && [ ! -e "crates/$name/out/rlib/stamp" ] || left=no
         words+=(--extern "$name=crates/$name/out/rlib/$name.rlib" -L "dependency=crates/$name/out/rlib")
