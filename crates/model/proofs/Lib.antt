@@ -1,5 +1,5 @@
--- The guide to this crate's proofs, in reading order: laws of the definitions, one subject each. Each function's own proof is in the folder of
--- its name.
+-- The guide to this crate's proofs, in reading order: laws of the definitions, one subject each. What the check does not find of a
+-- function's proof is in the folder of its name.
 
 -- Both sides of each line that a definition draws. It stands first, so that a definition that is made weaker is refused at an example.
 pub mod BothSides

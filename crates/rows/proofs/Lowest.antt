@@ -1,23 +1,29 @@
 -- The laws of lowest: the number of the first element that a test holds of, and the count of all where there is none.
 --   lowest-map             a test that answers the same of what elements are mapped to has the same lowest there
 --   none-lowest, lowest-none   the test holds of no element exactly where the lowest is the count
+--   position-found, position-none   what `position` of the library finds is the lowest, and where it finds none the lowest is the count
 --   lowest-is, lowest-of   the lowest by the fact that the test tells, there and back
 --   some-tells             whether there is one before the end tells that the fact holds of one of them
 --   SoughtTo               a walk that looks for the lowest has come to place i, and found none before it
 --   sought-here, sought-on, sought-all   it ends at i, goes on, and ends with none found
 -- Assumes nothing.
-use mathlib.Core.Path.{◌≡◌, refl}
+use mathlib.Core.Path.{◌≡◌, refl, sym}
 use mathlib.Core.Bool.{Bool, true, false, cond}
 use mathlib.Core.List.{List, [], ◌∷◌, map}
 use Prim.Native.Nat.{ℕ, zero, suc, ◌+◌, ◌≤◌, ◌<◌}
 use native.Mathlib.Omega.{arith}
 use lib.Dec.{ltb}
 use lib.ListN.{length, get_or, drop}
+use Rattle.std.proofs.lemmas.Bool.Decides.{nat_tests}
+use Rattle.std.specs.Prelude.{Option, Some, None, position}
+use Rattle.std.specs.List.{position_or_len}
+use Rattle.std.proofs.lemmas.List.Recursion.{is_position_or_len}
 use Rattle.rows.specs.Lists.{All, lowest}
 use Rattle.rows.specs.Numbered.{LowestIn}
 use Rattle.rows.specs.Upto.{upto}
 use Rattle.rows.proofs.Lists.{all-at}
-use Rattle.rows.proofs.Tells.{Tells, holds, fails, less-tells, told, untold, no-fact}
+use Rattle.rows.proofs.Tells.{Tells, holds, fails, less-tells, told, untold, no-fact, by-test}
+use Rattle.rows.proofs.Never.{never}
 use Rattle.rows.proofs.Upto.{upto-length, upto-at, upto_left, upto-none}
 
 module _ {A : Type 0} (test : A → Bool) where
@@ -29,17 +35,31 @@ module _ {A : Type 0} (test : A → Bool) where
   pub none-lowest : (xs : List A) → All (λ (x : A). test x ≡ false) xs → lowest test xs ≡ length xs
   unfolding lowest
   none-lowest [] none = refl
-  none-lowest (x ∷ xs) none = rw (none.0, none-lowest xs none.1) (omega arith)
+  none-lowest (x ∷ xs) none = let rest = none-lowest xs none.1 in grind arith
 
   pub lowest-none : (xs : List A) → length xs ≤ lowest test xs → All (λ (x : A). test x ≡ false) xs
   unfolding lowest
   lowest-none [] past = tt
-  lowest-none (x ∷ xs) past = go (test x) refl past (lowest-none xs)
-    where
-      go : (t : Bool) → test x ≡ t → length (x ∷ xs) ≤ cond t 0 (1 + lowest test xs)
-          → (length xs ≤ lowest test xs → All (λ (y : A). test y ≡ false) xs) → All (λ (y : A). test y ≡ false) (x ∷ xs)
-      go true e past rest = absurd (omega arith)
-      go false e past rest = (e, rest (omega arith))
+  lowest-none (x ∷ xs) past =
+      let fails : test x ≡ false = grind (arith, nat_tests) in
+      let rest = rw fails at past in
+      (fails, lowest-none xs (omega arith))
+
+-- ---- by what `position` of the library finds
+module _ {A : Type 0} (test : A → Bool) (xs : List A) where
+  is_lowest : position_or_len test xs ≡ lowest test xs
+  unfolding lowest
+  is_lowest = sym (is_position_or_len (lowest test) test refl (λ x ys. refl) xs)
+
+  position-tells : (P : Option ℕ → Type 0) → (lowest test xs < length xs → P (Some (lowest test xs))) → (length xs ≤ lowest test xs → P None)
+      → P (position test xs)
+  position-tells P finds ends = rw is_lowest (by-test P _ _ (less-tells (lowest test xs) (length xs)) finds (λ none. ends (omega arith)))
+
+  pub position-found : (i : ℕ) → Some i ≡ position test xs → (i ≡ lowest test xs) × (i < length xs)
+  position-found i = position-tells (λ p. Some i ≡ p → (i ≡ lowest test xs) × (i < length xs)) (λ there e. let same : i ≡ lowest test xs = cc in (same, omega arith)) (λ none e. never (cc))
+
+  pub position-none : None ≡ position test xs → length xs ≤ lowest test xs
+  position-none = position-tells (λ p. None ≡ p → length xs ≤ lowest test xs) (λ there e. never (cc)) (λ none e. none)
 
 -- ---- by the fact that the test tells
 module _ {A : Type 0} (d : A) (test : A → Bool) (Bad : A → Type 0) (tells : (x : A) → Tells (Bad x) (test x)) where
@@ -95,7 +115,7 @@ module _ {A : Type 0} (test : A → Bool) (n : ℕ) (f : ℕ → A) where
   module _ (i : ℕ) (sought : SoughtTo i) where
     pub sought-here : i < n → test (f i) ≡ true → i ≡ lowest test (upto n f)
     unfolding lowest
-    sought-here l e = let found = rw (upto_left n f i l, e) at sought in omega arith
+    sought-here l e = grind (arith, upto_left n f i l)
 
     pub sought-on : i < n → test (f i) ≡ false → SoughtTo (i + 1)
     unfolding lowest

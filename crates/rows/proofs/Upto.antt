@@ -7,6 +7,7 @@ use native.Mathlib.Numerals.{add-one}
 use native.Mathlib.Omega.{arith}
 use lib.ListN.{length, get_or, set, take, drop, length-drop, drop_of_length-le}
 use lib.Seq.{set_at, drop-cons, append_snoc, get_or-drop}
+use Rattle.std.specs.List.{zip}
 use Rattle.rows.specs.Lists.{All, Pairs, sum_of}
 use Rattle.rows.specs.Upto.{upto, at}
 use Rattle.rows.proofs.Lists.{sum-append}
@@ -73,6 +74,14 @@ pub upto_take : (n : ℕ) (l : List ℕ) → n ≤ length l → upto n (λ i. at
 upto_take zero l h = refl
 upto_take (suc n) [] h = absurd (not-suc-le-zero h)
 upto_take (suc n) (x ∷ l) h = ap (λ (t : List ℕ). x ∷ t) (upto_take n l (le_of_suc-le-suc h))
+
+-- Two columns by their places are the columns side by side.
+pub upto-zip : {A : Type 0} (g : ℕ → ℕ → A) (n : ℕ) (xs ys : List ℕ) → n ≤ length xs → n ≤ length ys
+    → map (λ (p : ℕ × ℕ). g p.0 p.1) (take n (zip xs ys)) ≡ upto n (λ i. g (at xs i) (at ys i))
+upto-zip g zero xs ys h k = refl
+upto-zip g (suc n) [] ys h k = absurd (not-suc-le-zero h)
+upto-zip g (suc n) (x ∷ xs) [] h k = absurd (not-suc-le-zero k)
+upto-zip {A} g (suc n) (x ∷ xs) (y ∷ ys) h k = ap (λ (t : List A). g x y ∷ t) (upto-zip g n xs ys (le_of_suc-le-suc h) (le_of_suc-le-suc k))
 
 -- A part of a column, by its places.
 pub upto-part : (n k : ℕ) (l : List ℕ) → k + n ≤ length l → take n (drop k l) ≡ upto n (λ i. at l (k + i))
