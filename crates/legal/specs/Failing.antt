@@ -1,12 +1,8 @@
--- Internal: no public promise cites this. The contracts of the private functions `fails` and `lowest_failing` do.
---   fails_of   the two checks that go over the jobs, as one: check 4 or check 5 of one job
+-- Internal: no public promise cites this. The contract of the private function `lowest_failing` does.
+--   Computes   what calls of a function give is what a check says of a job
 -- Assumes nothing.
-use Rattle.std.specs.Prelude.{Bool, ℕ}
+use Rattle.std.specs.Prelude.{◌≡◌, Bool}
 use Rattle.model.specs.declared.Job.{Job}
-use Rattle.legal.specs.Legal.{bad_cost, too_long}
-use Rattle.legal.specs.declared.Test.{Test}
-use Rattle.legal.specs.declared.Test.TheVariants.{Cost, Long}
 
-abbrev pub fails_of : Test → ℕ → Job → Bool
-fails_of Cost w = bad_cost
-fails_of Long w = too_long w
+abbrev pub Computes : (Job → Bool → Type 0) → (Job → Bool) → Type 0
+Computes gives check = (job : Job) (failed : Bool) → gives job failed → failed ≡ check job

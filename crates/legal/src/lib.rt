@@ -2,142 +2,100 @@
 // the first that is not passed gives the refusal, by number and place. The definition is specs/Legal.antt; proofs/Lib.antt is the guide to its laws.
 #![tactic(auto)]
 
-ghost use Rattle.std.specs.Prelude.{◌≡◌, ◌≤◌};
-ghost use Rattle.rows.specs.Lists.{lowest};
-ghost use Rattle.model.specs.Columns.{job_at, jobs_in};
+ghost use Rattle.std.specs.Prelude.{◌≡◌, ◌≤◌, ◌<◌, Bool, IfSome, position};
+ghost use Rattle.model.specs.Columns.{jobs_in};
 ghost use Rattle.model.specs.Limits.{jobs_most};
-ghost use Rattle.model.specs.Refusal.{given};
-ghost use Rattle.legal.specs.Failing.{fails_of};
-ghost use Rattle.legal.specs.Legal.{outside, on_board, bad_cost, too_long, legal_of, says_checked};
+ghost use Rattle.model.specs.Refusal.{given, says};
+ghost use Rattle.model.specs.declared.Job.{Job};
+ghost use Rattle.legal.specs.Failing.{Computes};
+ghost use Rattle.legal.specs.Legal.{outside, on_board, bad_cost, too_long, legal_of};
 
-use model::{Board, CORES_MOST, COST_MOST, JOBS_MOST, Refusal, WINDOW_MOST};
-
-// A set, or a board by itself, that passes its checks, or the refusal of the first that it fails.
-#[derive(Clone, Copy)]
-pub enum Checked {
-    Legal,
-    Refused(Refusal),
-}
-
-// The two checks that go over the jobs.
-#[derive(Clone, Copy)]
-enum Test {
-    Cost,
-    Long,
-}
+use model::{Board, CORES_MOST, COST_MOST, JOBS_MOST, Job, Refusal, WINDOW_MOST};
 
 // Whether a number is outside 1 to `most`.
 pub fn is_outside(most: u32, x: u32) -> bool
     ensures { result ≡ outside most x }
 {
-    if x < 1 {
-        return true;
-    }
-    most < x
+    !(1..=most).contains(&x)
 }
 
-// Whether a cost on an allowed kind is out of range. A job is its two costs, with 0 where a kind is not allowed.
-#[tactic(auto, unfolding(model::specs::Columns::job_at))]
-fn bad_cost(first: u32, second: u32) -> bool
-    ensures { result ≡ bad_cost (job_at first second) }
+// Whether a cost on an allowed kind is out of range. The three cases stand here and in the next function: one asks for any cost and one for all, so
+// that one function for both would be no plainer.
+fn bad_cost(job: Job) -> bool
+    ensures { result ≡ bad_cost job }
 {
-    if second == 0 {
-        return is_outside(COST_MOST, first);
+    match job {
+        Job::Both(c1, c2) => is_outside(COST_MOST, c1.0) || is_outside(COST_MOST, c2.0),
+        Job::OnlyFirst(c1) => is_outside(COST_MOST, c1.0),
+        Job::OnlySecond(c2) => is_outside(COST_MOST, c2.0),
     }
-    if first == 0 {
-        return is_outside(COST_MOST, second);
-    }
-    if is_outside(COST_MOST, first) {
-        return true;
-    }
-    is_outside(COST_MOST, second)
 }
 
 // Whether every cost on an allowed kind is above the window.
-#[tactic(auto, unfolding(model::specs::Columns::job_at))]
-fn too_long(w: u32, first: u32, second: u32) -> bool
-    ensures { result ≡ too_long w (job_at first second) }
+fn too_long(w: u32, job: Job) -> bool
+    ensures { result ≡ too_long w job }
 {
-    if second == 0 {
-        return w < first;
-    }
-    if first == 0 {
-        return w < second;
-    }
-    if first <= w {
-        return false;
-    }
-    w < second
-}
-
-fn fails(test: Test, w: u32, first: u32, second: u32) -> bool
-    ensures { result ≡ fails_of test w (job_at first second) }
-{
-    match test {
-        Test::Cost => bad_cost(first, second),
-        Test::Long => too_long(w, first, second),
+    match job {
+        Job::Both(c1, c2) => w < c1.0 && w < c2.0,
+        Job::OnlyFirst(c1) => w < c1.0,
+        Job::OnlySecond(c2) => w < c2.0,
     }
 }
 
-// The lowest of the first `n` jobs that fails a check, and `n` where none does.
-fn lowest_failing(
-    test: Test,
-    w: u32,
+// The lowest of the first `n` jobs that fails a check.
+fn lowest_failing<F: Fn(Job) -> bool>(
+    fails: F,
     first: &[u32; JOBS_MOST],
     second: &[u32; JOBS_MOST],
     n: usize,
-) -> usize
-    requires { n ≤ jobs_most }
-    ensures { result ≡ lowest (fails_of test w) (jobs_in n first.now second.now) }
+) -> Option<usize>
+    requires few { n ≤ jobs_most }
+    requires callable { F.IsAlwaysCallable fails }
+    ensures lowest { (check : Job → Bool) → Computes (F.post fails) check → result ≡ position check (jobs_in n first.now second.now) }
+    ensures within { IfSome result (λ job. job < n) }
 {
-    let mut i: usize = 0;
-    while i < n {
-        if fails(test, w, first[i], second[i]) {
-            return i;
-        }
-        i += 1;
-    }
-    i
+    first
+        .iter()
+        .zip(second)
+        .take(n)
+        .map(|(first, second)| model::job_of(*first, *second))
+        .position(fails)
 }
 
 // Checks 1 and 2, of a board by itself.
-pub fn check_board(board: Board) -> Checked
-    ensures { says_checked result ≡ on_board board (given tt) }
+#[tactic(auto, unfolding(crate::specs::Legal::on_board))]
+pub fn check_board(board: Board) -> Result<(), Refusal>
+    ensures { says result ≡ on_board board (given tt) }
 {
     if is_outside(WINDOW_MOST, board.window) {
-        return Checked::Refused(Refusal::Window);
+        return Err(Refusal::Window);
     }
-    if is_outside(CORES_MOST, board.first) {
-        return Checked::Refused(Refusal::Cores);
+    if is_outside(CORES_MOST, board.first) || is_outside(CORES_MOST, board.second) {
+        return Err(Refusal::Cores);
     }
-    if is_outside(CORES_MOST, board.second) {
-        return Checked::Refused(Refusal::Cores);
-    }
-    Checked::Legal
+    Ok(())
 }
 
-// Checks 1 to 5 of the first `n` jobs of the columns. More than 64 can be asked for, and are refused.
-#[tactic(auto, using(crate::proofs::CheckByCheck::many_refused))]
-pub fn check(board: Board, first: &[u32; JOBS_MOST], second: &[u32; JOBS_MOST], n: usize) -> Checked
-    ensures { says_checked result ≡ legal_of board n (jobs_in n first.now second.now) }
+// Checks 1 to 5 of the first `n` jobs of the columns. More than 64 can be asked for, and are refused: so `n` stands
+// beside whole columns. A place is below 64, and the cast of it loses nothing: `try_from` would have an error that never comes.
+#[tactic(auto, unfolding(crate::specs::Legal::legal_of, crate::specs::Legal::on_board))]
+pub fn check(
+    board: Board,
+    first: &[u32; JOBS_MOST],
+    second: &[u32; JOBS_MOST],
+    n: usize,
+) -> Result<(), Refusal>
+    ensures { says result ≡ legal_of board n (jobs_in n first.now second.now) }
 {
-    match check_board(board) {
-        Checked::Refused(refusal) => {
-            return Checked::Refused(refusal);
-        }
-        Checked::Legal => {}
-    }
+    check_board(board)?;
     if JOBS_MOST < n {
-        return Checked::Refused(Refusal::TooManyJobs);
+        return Err(Refusal::TooManyJobs);
     }
-    let w = board.window;
-    let bad = lowest_failing(Test::Cost, w, first, second, n);
-    if bad < n {
-        return Checked::Refused(Refusal::Cost(bad as u32));
+    if let Some(bad) = lowest_failing(bad_cost, first, second, n) {
+        return Err(Refusal::Cost(bad as u32));
     }
-    let long = lowest_failing(Test::Long, w, first, second, n);
-    if long < n {
-        return Checked::Refused(Refusal::TooLong(long as u32));
+    if let Some(long) = lowest_failing(|job| too_long(board.window, job), first, second, n) {
+        return Err(Refusal::TooLong(long as u32));
     }
-    Checked::Legal
+    Ok(())
 }

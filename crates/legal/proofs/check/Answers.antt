@@ -1,34 +1,37 @@
--- `legal::check` meets its contract: each way out of the code is a way through the checks, of which CheckByCheck.antt says what is answered.
--- Assumes nothing.
-use Prim.Native.Nat.{◌≤◌}
+-- `legal::check` meets its contract: what `lowest_failing` says of each of the two checks on jobs. Assumes nothing.
 use native.Mathlib.Omega.{arith}
-use Rattle.rows.proofs.Upto.{upto-length}
-use Rattle.legal.specs.Legal.{legal_of}
-use Rattle.legal.proofs.CheckByCheck.{board-refused, board-passed, Passed, cost-bad, job-long, all-passed, ran-legal}
+use Rattle.std.proofs.Common.{rules}
+use Rattle.std.proofs.lemmas.Bool.Decides.{nat_tests}
+use Rattle.rows.proofs.Lowest.{position-found, position-none}
+use Rattle.model.specs.Columns.{jobs_in}
+use Rattle.legal.specs.Legal.{on_board, bad_cost, too_long, legal_of}
 use Rattle.legal.proofs.check.Goals as goal
 
-pub returns-in-Refused : goal.returns-in-Refused
-unfolding legal_of
-returns-in-Refused c = board-refused _ tt _ _ _ (rw c.in-Refused.is at c.check_board.ensures)
+pub returns-in-Some : goal.returns-in-Some
+unfolding legal_of on_board
+returns-in-Some c =
+    let a = c.args in
+    let js = jobs_in a.n a.first.now a.second.now in
+    let bad = position-found bad_cost js c.in-Some.bad (c.in-Some.ensures.lowest bad_cost (λ job failed gave. search rules)) in
+    grind (arith, nat_tests)
 
-pub returns-then-bad-n : goal.returns-then-bad-n
-returns-then-bad-n c =
-    let passed : Passed c.args.board = board-passed _ tt (rw c.in-Legal.is at c.check_board.ensures) in
-    ran-legal _ _ _ (cost-bad _ passed (omega arith) c.lowest_failing-bad.ensures (rw upto-length (omega arith)))
-
-pub returns-then-long-n : goal.returns-then-long-n
-returns-then-long-n c =
-    let passed : Passed c.args.board = board-passed _ tt (rw c.in-Legal.is at c.check_board.ensures) in
-    let costs : c.args.n ≤ c.lowest_failing-bad.result = omega arith in
-    ran-legal _ _ _
-    (job-long _ passed (omega arith) (rw upto-length (rw c.lowest_failing-bad.ensures at costs)) c.lowest_failing-long.ensures
-    (rw upto-length (omega arith)))
+pub returns-in-Some-lowest_failing : goal.returns-in-Some-lowest_failing
+unfolding legal_of on_board
+returns-in-Some-lowest_failing c =
+    let a = c.args in
+    let js = jobs_in a.n a.first.now a.second.now in
+    let long_of = too_long a.board.window in
+    let some = c.in-Some-lowest_failing in
+    let costs = position-none bad_cost js (c.in_default.ensures.lowest bad_cost (λ job failed gave. search rules)) in
+    let long = position-found long_of js some.long (some.ensures.lowest long_of (λ job failed gave. search rules)) in
+    grind (arith, nat_tests)
 
 pub returns : goal.returns
+unfolding legal_of on_board
 returns c =
-    let passed : Passed c.args.board = board-passed _ tt (rw c.in-Legal.is at c.check_board.ensures) in
-    let costs : c.args.n ≤ c.lowest_failing-bad.result = omega arith in
-    let fit : c.args.n ≤ c.lowest_failing-long.result = omega arith in
-    ran-legal _ _ _
-    (all-passed passed (omega arith) (rw upto-length (rw c.lowest_failing-bad.ensures at costs))
-    (rw upto-length (rw c.lowest_failing-long.ensures at fit)))
+    let a = c.args in
+    let js = jobs_in a.n a.first.now a.second.now in
+    let long_of = too_long a.board.window in
+    let costs = position-none bad_cost js (c.in_default.ensures.lowest bad_cost (λ job failed gave. search rules)) in
+    let fit = position-none long_of js (c.in_default-lowest_failing.ensures.lowest long_of (λ job failed gave. search rules)) in
+    grind (arith, nat_tests)
