@@ -6,27 +6,26 @@ use Prim.Native.Nat.{ℕ, ◌≤◌, ◌<◌}
 use native.Mathlib.Omega.{arith}
 use borrow.Author.Tests.{leb-true, leb-false, ne_eqb, le-ltb, lt-ltb}
 use lib.Dec.{leb, ltb, eqb}
-use lib.ListN.{drop}
-use lib.Seq.{drop_at}
+use lib.ListN.{length}
+use Rattle.std.specs.Prelude.{Result}
 use Rattle.rows.specs.Lists.{All}
 use Rattle.rows.specs.Upto.{upto, at}
-use Rattle.rows.proofs.Upto.{upto-length, upto-at, upto-same, upto-map, upto-front}
+use Rattle.rows.proofs.Upto.{upto-length, upto-at, upto-same, upto-map}
 use Rattle.model.specs.Board.{on}
-use Rattle.model.specs.Refusal.{given}
+use Rattle.model.specs.Refusal.{given, says_refusal}
 use Rattle.model.specs.Columns.{job_at, jobs_in, shares_in}
 use Rattle.model.specs.declared.Kind.{Kind}
 use Rattle.model.specs.declared.Kind.TheVariants.{First, Second}
 use Rattle.model.specs.declared.Job.{Job}
+use Rattle.model.specs.declared.Refusal.{Refusal}
 use Rattle.model.specs.declared.Refusal.TheVariants.{BothOver}
 use Rattle.model.proofs.Columns.{Case, on-first, on-second, on_both, case}
 use Rattle.legal.specs.Lawful.{LegalJob}
 use Rattle.split.specs.Home.{both_row, at_home}
 use Rattle.split.specs.Steps.{steps_of}
 use Rattle.split.specs.Shares.{share_of, shares_seen, home_rows, home_ticks, settled, relieved, split_of}
-use Rattle.split.specs.Columns.{row_at, row_in, rows_in, home_at, bare, mark_of, marks_in, GoneHome, Relieved, Answered, Ready, Summed}
+use Rattle.split.specs.Columns.{row_at, row_in, rows_in, home_at, bare, mark_of, marks_in, marked, says_ended, GoneHome, Ready, Summed}
 use Rattle.split.specs.Rows.{Row}
-use Rattle.split.specs.declared.Ended.{Ended}
-use Rattle.split.specs.declared.Ended.TheVariants.{Split, Refused}
 use Rattle.split.specs.declared.Sums.{Sums}
 use Rattle.split.proofs.home.Homes.{home-ready, home-there, home_here}
 use Rattle.split.proofs.Answers.{split-both, split-first, split-second, split-home}
@@ -60,27 +59,22 @@ row_seen Second a b j (on_both pa pb) = go (leb a b) refl
     go false e = rw (lt-ltb b a (leb-false a b e), ne_eqb a 0 (λ z. omega arith), lt-ltb 0 b pb)
 
 -- ---- the jobs at home
-module _ {n : ℕ} {c1 c2 s1₀ s2₀ s1 s2 : List ℕ} {r : Sums} (gone : GoneHome n c1 c2 s1₀ s2₀ s1 s2 r) where
+module _ {c1 c2 s1 s2 : List ℕ} {r : Sums} (size : length c2 ≡ length c1) (gone : GoneHome c1 c2 s1 s2 r) where
+  abbrev n : ℕ
+  n = length c1
+
   abbrev job : ℕ → Job
   job i = job_at (at c1 i) (at c2 i)
 
   abbrev js : List Job
   js = jobs_in n c1 c2
 
-  -- The ticks of the jobs at home in front of each column, and behind them what it had.
+  -- The ticks of the jobs at home in each column.
   first-at : (i : ℕ) → i < n → at s1 i ≡ (home_at First c1 c2 i).here
-  first-at i l = rw gone.first (upto-front n (λ k. (home_at First c1 c2 k).here) (drop n s1₀) i l)
+  first-at i l = rw gone.first (upto-at n (λ k. (home_at First c1 c2 k).here) 0 i l)
 
   second_at : (i : ℕ) → i < n → at s2 i ≡ (home_at First c1 c2 i).there
-  second_at i l = rw gone.second (upto-front n (λ k. (home_at First c1 c2 k).there) (drop n s2₀) i l)
-
-  rest-first : drop n s1 ≡ drop n s1₀
-  rest-first =
-      rw gone.first (drop_at (upto n (λ k. (home_at First c1 c2 k).here)) (drop n s1₀) n (upto-length n (λ k. (home_at First c1 c2 k).here)))
-
-  rest-second : drop n s2 ≡ drop n s2₀
-  rest-second =
-      rw gone.second (drop_at (upto n (λ k. (home_at First c1 c2 k).there)) (drop n s2₀) n (upto-length n (λ k. (home_at First c1 c2 k).there)))
+  second_at i l = rw gone.second (upto-at n (λ k. (home_at First c1 c2 k).there) 0 i l)
 
   -- The rows of the columns, seen from a kind.
   home-rows : (k : Kind) → rows_in n (marks_in n (on k c2 c1) (on k s1 s2)) (on k c2 c1) (on k s1 s2) (on k s2 s1) ≡ map bare (home_rows k js)
@@ -92,6 +86,9 @@ module _ {n : ℕ} {c1 c2 s1₀ s2₀ s1 s2 : List ℕ} {r : Sums} (gone : GoneH
           rw (upto-at n (λ j. mark_of (at c2 j) (at s1 j)) 0 i l, first-at i l, second_at i l) (row_seen First (at c1 i) (at c2 i) _ (case (at c1 i) (at c2 i)))
       row Second i l =
           rw (upto-at n (λ j. mark_of (at c1 j) (at s2 j)) 0 i l, first-at i l, second_at i l) (row_seen Second (at c1 i) (at c2 i) _ (case (at c1 i) (at c2 i)))
+
+  marked-first : marked c2 s1 s2 ≡ map bare (home_rows First js)
+  marked-first = rw size (home-rows First)
 
   home-shares : shares_in n s1 s2 ≡ shares_seen First (home_rows First js)
   home-shares =
@@ -107,8 +104,8 @@ module _ {n : ℕ} {c1 c2 s1₀ s2₀ s1 s2 : List ℕ} {r : Sums} (gone : GoneH
 
   -- What the steps ask, where a kind is over.
   module _ (w : ℕ) (legal : All (LegalJob w) js) where
-    pub asks-first : Ready w (rows_in n (marks_in n c2 s1) c2 s1 s2) × Summed (rows_in n (marks_in n c2 s1) c2 s1 s2) r
-    asks-first = rw (home-rows First) (
+    pub asks_first : Ready w (marked c2 s1 s2) × Summed (marked c2 s1 s2) r
+    asks_first = rw marked-first (
       ready-bare w (home_rows First js) (home-ready First w js legal),
       record {
         here = home-first ∙ sym (bare-here (home_rows First js));
@@ -118,8 +115,8 @@ module _ {n : ℕ} {c1 c2 s1₀ s2₀ s1 s2 : List ℕ} {r : Sums} (gone : GoneH
       },
     )
 
-    pub asks-second : Ready w (rows_in n (marks_in n c1 s2) c1 s2 s1) × Summed (rows_in n (marks_in n c1 s2) c1 s2 s1) (record { here = r.there; there = r.here })
-    asks-second = rw (home-rows Second) (
+    pub asks_second : Ready w (marked c1 s2 s1) × Summed (marked c1 s2 s1) (record { here = r.there; there = r.here })
+    asks_second = rw (home-rows Second) (
       ready-bare w (home_rows Second js) (home-ready Second w js legal),
       record {
         here = home-second ∙ sym (bare-here (home_rows Second js));
@@ -136,34 +133,22 @@ module _ {n : ℕ} {c1 c2 s1₀ s2₀ s1 s2 : List ℕ} {r : Sums} (gone : GoneH
       rw (upto-length n job) (settled-alike k room away _ _ (alike-steps n w room rows (home_rows k js) (b ∙ e)))
 
   module _ (w room1 room2 : ℕ) where
-    pub both-over : room1 < r.here → room2 < r.there → Answered (split_of w room1 room2 js) n s1₀ s2₀ s1 s2 (Refused BothOver)
-    both-over h t = record {
-      is = split-both w room1 room2 js (omega (arith, home-first)) (omega (arith, home-second));
-      rest1 = rest-first;
-      rest2 = rest-second;
-    }
+    pub both_over : room1 < r.here → room2 < r.there → says_refusal BothOver ≡ split_of w room1 room2 js
+    both_over h t = split-both w room1 room2 js (omega (arith, home-first)) (omega (arith, home-second))
 
-    pub first-over : room1 < r.here → r.there ≤ room2 → {s1' s2' : List ℕ} {ended : Ended} → Relieved First n w room1 room2 c2 s1 s2 s1' s2' ended
-        → Answered (split_of w room1 room2 js) n s1₀ s2₀ s1' s2' ended
-    first-over h t x = record {
-      is = x.answer ∙ relieved-home First w room1 room2 _ (rows-bare n (marks_in n c2 s1) c2 s1 s2) (home-rows First)
-          ∙ split-first w room1 room2 js (omega (arith, home-first)) (omega (arith, home-second));
-      rest1 = x.rest-here ∙ rest-first;
-      rest2 = x.rest-there ∙ rest-second;
-    }
+    pub first_over : room1 < r.here → r.there ≤ room2 → (s1' s2' : List ℕ) (ended : Result (Unit {0}) Refusal)
+        → says_ended ended (length c2) s1' s2' ≡ settled First room1 room2 (steps_of (length c2) w room1 (marked c2 s1 s2))
+        → says_ended ended n s1' s2' ≡ split_of w room1 room2 js
+    first_over h t s1' s2' ended x =
+        rw size at x ∙ relieved-home First w room1 room2 _ (rows-bare n (marks_in n c2 s1) c2 s1 s2) (home-rows First)
+        ∙ split-first w room1 room2 js (omega (arith, home-first)) (omega (arith, home-second))
 
-    pub second-over : r.here ≤ room1 → room2 < r.there → {s1' s2' : List ℕ} {ended : Ended} → Relieved Second n w room2 room1 c1 s2 s1 s2' s1' ended
-        → Answered (split_of w room1 room2 js) n s1₀ s2₀ s1' s2' ended
-    second-over h t x = record {
-      is = x.answer ∙ relieved-home Second w room2 room1 _ (rows-bare n (marks_in n c1 s2) c1 s2 s1) (home-rows Second)
-          ∙ split-second w room1 room2 js (omega (arith, home-first)) (omega (arith, home-second));
-      rest1 = x.rest-there ∙ rest-first;
-      rest2 = x.rest-here ∙ rest-second;
-    }
+    pub second_over : r.here ≤ room1 → room2 < r.there → (s1' s2' : List ℕ) (ended : Result (Unit {0}) Refusal)
+        → says_ended ended n s1' s2' ≡ settled Second room2 room1 (steps_of n w room2 (marked c1 s2 s1))
+        → says_ended ended n s1' s2' ≡ split_of w room1 room2 js
+    second_over h t s1' s2' ended x =
+        x ∙ relieved-home Second w room2 room1 _ (rows-bare n (marks_in n c1 s2) c1 s2 s1) (home-rows Second)
+        ∙ split-second w room1 room2 js (omega (arith, home-first)) (omega (arith, home-second))
 
-    pub none_over : r.here ≤ room1 → r.there ≤ room2 → Answered (split_of w room1 room2 js) n s1₀ s2₀ s1 s2 Split
-    none_over h t = record {
-      is = ap given home-shares ∙ split-home w room1 room2 js (omega (arith, home-first)) (omega (arith, home-second));
-      rest1 = rest-first;
-      rest2 = rest-second;
-    }
+    pub none_over : r.here ≤ room1 → r.there ≤ room2 → given (shares_in n s1 s2) ≡ split_of w room1 room2 js
+    none_over h t = ap given home-shares ∙ split-home w room1 room2 js (omega (arith, home-first)) (omega (arith, home-second))

@@ -1,5 +1,5 @@
--- A guide to the proofs of the split, in reading order. The folders home, steps and balance are the modules of src/: their functions' proofs, and
--- the laws that these need. share_out, split and split_legal are the functions of lib.rt.
+-- A guide to the proofs of the split, in reading order. The folders home, steps and balance are the modules of src/: what the check does not
+-- find of their functions' proofs, and the laws that these need. split and split_legal are functions of lib.rt.
 -- What every call of `split` promises, in plain words, over its contract alone. Start here.
 mod Promises
 -- The definitions of that promise by examples, exactly at each limit and wrong by one. `pub` modules are checked first: a slip in a definition
@@ -13,6 +13,8 @@ pub mod Demands
 pub mod Causes
 -- What the code's answers say, and which of them the definition of the split gives.
 mod Answers
+-- What `split` needs: an answer that says what the definition does promises all.
+mod Promising
 -- The jobs at home in columns, and the answer by which kinds are over: what `split_legal` needs.
 mod ByOver
 -- The split and the balance of jobs are those of their costs in columns.

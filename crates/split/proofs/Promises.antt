@@ -8,6 +8,7 @@ use mathlib.Core.Logic.{◌↔◌}
 use mathlib.Core.Path.{◌≡◌}
 use Prim.Native.Nat.{ℕ, ◌+◌, ◌-◌, ◌≤◌, ◌<◌}
 use lib.ListN.{length, get_or}
+use Rattle.std.specs.Prelude.{Result}
 use Rattle.model.specs.Board.{room_of}
 use Rattle.model.specs.Empty.{no_job}
 use Rattle.model.specs.Movers.{movers, unevens}
@@ -17,6 +18,7 @@ use Rattle.model.specs.declared.Kind.{Kind}
 use Rattle.model.specs.declared.Kind.TheVariants.{First, Second}
 use Rattle.model.specs.declared.Board.{Board}
 use Rattle.model.specs.declared.Job.{Job}
+use Rattle.model.specs.declared.Refusal.{Refusal}
 use Rattle.model.proofs.Splits.{all-done-length, all-done-at}
 use Rattle.legal.specs.Lawful.{Lawful}
 use Rattle.legal.specs.Legal.{legal_of}
@@ -25,11 +27,11 @@ use Rattle.split.specs.Causes.{stopped_on, BothOver, StillOver, OtherOver, RoomC
 use Rattle.split.specs.Promise.{stretched_on, Accepted, Promised}
 use Rattle.split.specs.Shares.{says_shared}
 use Rattle.split.specs.Steps.{here_sum}
-use Rattle.split.specs.declared.Shared.{Shared}
+use Rattle.split.specs.declared.Shares.{Shares}
 use Rattle.split.proofs.Causes.{refused-for-room, six, fourteen, fifteen, sixteen, stopped-full, cause-once}
 use Rattle.split.proofs.Demands.{room-only as only}
 
-module _ {board : Board} {n : ℕ} {js : List Job} {r : Shared} (p : Promised board n js r) where
+module _ {board : Board} {n : ℕ} {js : List Job} {r : Result Shares Refusal} (p : Promised board n js r) where
   -- ==== Demand 2, as far as it is of shares: in every answer that gives shares ss, each job gets its whole work.
   module _ {ss : List Ticks} (says : says_shared r ≡ given ss) where
     accepted : Accepted board js ss

@@ -1,3 +1,3 @@
 -- What the proofs of `balance` need.
--- The difference of two numbers of 63 bits fits a signed number of 64.
+-- A difference of two numbers is what a signed field keeps of it, and a room has 63 bits.
 mod Signed

@@ -13,7 +13,7 @@ pub mod StepByStep
 pub mod FarEnds
 -- Rows without the near cost that they no longer need: the steps do not ask for it.
 pub mod Bare
--- The row that comes next, by products alone: the loop of `next_of`.
+-- The row that comes next, by costs alone: the loop of `next_of`.
 mod BestRow
 -- The steps over columns: the loop of `steps`.
 mod Runs

@@ -1,5 +1,6 @@
 -- Internal: no public promise cites this. The contracts of the private functions do.
 -- Columns of numbers, as the code lends them, and the rows and shares that they are.
+--   OfRows      columns of as many rows, which are no more than a set may have jobs
 --   no_row      a row of zeros, which no job has: what a list of rows has past its end
 --   word_most   the greatest number of 32 bits, which a row's ticks have
 --   sum_most    what the ticks of all rows come to at most
@@ -13,24 +14,21 @@
 --   bare        a row without the near cost that it no longer needs: what a column keeps of it
 --   mark_of     the near cost that is left of a job at home: 0 where it cannot be moved
 --   marks_in    the same of all jobs of two columns
---   best_of     the code's way to write a row that comes next: its number and costs, or the count of the rows, 0 and 1
---   better_of   the better of the one found so far and a row, by the products alone
---   Small       the costs of the one found so far have 32 bits
+--   marked      the rows of three columns, with the near costs that are left of jobs at home
+--   next_at     the number of the row that comes next
 --   Found       the one found is the next of all rows with these costs, whatever their ticks
 --   gone_to     where one step takes a row at home, by its costs
 --   end_of      the ticks of a row here and there, as the code passes them
 --   far_end_of  the far end of a job, as the code passes it
 --   Advanced    a step on one row: what is stored, and the sums after it
---   Stepped     the steps on the first n rows: the rows and the sums after them
+--   Stepped     the steps on all rows: the rows and the sums after them
 --   home_at     a job of two columns of costs at home, seen from a kind
---   GoneHome    the first n jobs at home: what is stored, and the sums
+--   GoneHome    all jobs at home: what is stored, and the sums
 --   says_ended  what the code's answer to a legal set says, with its two columns, as an answer by number and place
 --   ended_of    the code's answer where the steps from a kind are over, by whether each kind is within its room
---   Relieved    the answer where the steps from a kind are over
---   Answered    the answer to a legal set
---   none        a refusal's result: no shares
 -- Assumes nothing.
-use Rattle.std.specs.Prelude.{Bool, true, false, cond, List, ◌++◌, map, ◌≡◌, ℕ, ◌+◌, ◌*◌, ◌≤◌, ◌<◌, ◌^◌, ltb, eqb, length, get_or, set, drop, replicate}
+use Rattle.std.specs.Prelude.{Bool, true, false, cond, List, map, ◌≡◌, ℕ, ◌+◌, ◌*◌, ◌≤◌, ◌<◌, ltb, eqb, length, get_or, set, Option, None, Some, Result, Ok, Err}
+use Rattle.rows.specs.Lists.{All}
 use Rattle.rows.specs.Upto.{upto, at}
 use Rattle.model.specs.Board.{on}
 use Rattle.model.specs.Columns.{job_at, jobs_in, shares_in}
@@ -43,15 +41,13 @@ use Rattle.model.specs.declared.Refusal.{Refusal}
 use Rattle.model.specs.declared.Refusal.TheVariants.{FirstOver, SecondOver, OtherOver}
 use Rattle.split.specs.Home.{both_row, at_home, keep_of, give_of}
 use Rattle.split.specs.Rows.{Row, Next, Nobody, At}
-use Rattle.split.specs.Shares.{home_rows, settled}
+use Rattle.split.specs.Shares.{home_rows}
 use Rattle.split.specs.Steps.{here_sum, there_sum, next_of, moved_of, steps_of}
-use Rattle.split.specs.declared.steps.Best.{Best}
-use Rattle.split.specs.declared.Ended.{Ended}
-use Rattle.split.specs.declared.Ended.TheVariants.{Split, Refused}
 use Rattle.split.specs.declared.Ends.{Ends}
-use Rattle.split.specs.declared.Outcome.TheVariants.{Refused as NoShares}
-use Rattle.split.specs.declared.Shared.{Shared}
 use Rattle.split.specs.declared.Sums.{Sums}
+
+abbrev pub OfRows : ℕ → List (List ℕ) → Type 0
+OfRows n columns = (n ≤ jobs_most) × All (λ (column : List ℕ). length column ≡ n) columns
 
 -- ---- rows, as the steps are given them
 abbrev pub no_row : Row
@@ -106,20 +102,16 @@ mark_of b h = cond (eqb b 0) 0 h
 abbrev pub marks_in : ℕ → (far here : List ℕ) → List ℕ
 marks_in n far here = upto n (λ i. mark_of (at far i) (at here i))
 
+abbrev pub marked : (far here there : List ℕ) → List Row
+marked far here there = rows_in (length far) (marks_in (length far) far here) far here there
+
 -- ---- the row that comes next
-abbrev pub best_of : ℕ → Next → Best
-best_of n Nobody = record { at = n; near = 0; far = 1 }
-best_of n (At i r) = record { at = i; near = r.near; far = r.far }
+abbrev pub next_at : Next → Option ℕ
+next_at Nobody = None
+next_at (At i r) = Some i
 
-unfoldable pub better_of : Best → (i near far : ℕ) → Best
-better_of x i a b = cond (ltb (x.near * b) (a * x.far)) (record { at = i; near = a; far = b }) x
-
-pub record Small (x : Best) : Type 0 where
-  pub near : x.near < 2 ^ 32
-  pub far : x.far < 2 ^ 32
-
-pub record Found (n : ℕ) (near far : List ℕ) (r : Best) : Type 0 where
-  pub is : (here there : List ℕ) → r ≡ best_of n (next_of (rows_in n near far here there))
+pub record Found (near far : List ℕ) (r : Option ℕ) : Type 0 where
+  pub is : (here there : List ℕ) → r ≡ next_at (next_of (rows_in (length far) near far here there))
 
 -- ---- a step
 abbrev pub gone_to : (w room all near far : ℕ) → Row
@@ -141,41 +133,25 @@ pub record Advanced (w room : ℕ) (sums : Sums) (far i : ℕ) (near here there 
   pub small : (gone_to w room sums.here (at near i) far).there ≤ word_most
 
 -- ---- the steps
-pub record Stepped (n w room : ℕ) (near far here there near' here' there' : List ℕ) (r : Sums) : Type 0 where
-  pub rows : rows_in n near' far here' there' ≡ map bare (steps_of n w room (rows_in n near far here there))
-  pub sum-here : r.here ≡ here_sum (rows_in n near' far here' there')
-  pub sum-there : r.there ≡ there_sum (rows_in n near' far here' there')
-  pub rest-here : drop n here' ≡ drop n here
-  pub rest-there : drop n there' ≡ drop n there
+pub record Stepped (w room : ℕ) (near far here there near' here' there' : List ℕ) (r : Sums) : Type 0 where
+  pub rows : rows_in (length far) near' far here' there' ≡ map bare (steps_of (length far) w room (rows_in (length far) near far here there))
+  pub sum-here : r.here ≡ here_sum (rows_in (length far) near' far here' there')
+  pub sum-there : r.there ≡ there_sum (rows_in (length far) near' far here' there')
 
 -- ---- going home, and the answer
 abbrev pub home_at : Kind → (c1 c2 : List ℕ) → ℕ → Row
 home_at k c1 c2 i = at_home k (job_at (at c1 i) (at c2 i))
 
--- Each column has the jobs' ticks at home in front, and behind them what it had.
-pub record GoneHome (n : ℕ) (c1 c2 s1 s2 s1' s2' : List ℕ) (r : Sums) : Type 0 where
-  pub first : s1' ≡ upto n (λ i. (home_at First c1 c2 i).here) ++ drop n s1
-  pub second : s2' ≡ upto n (λ i. (home_at First c1 c2 i).there) ++ drop n s2
-  pub sums : Summed (home_rows First (jobs_in n c1 c2)) r
+-- Each column has the jobs' ticks at home.
+pub record GoneHome (c1 c2 s1 s2 : List ℕ) (r : Sums) : Type 0 where
+  pub first : s1 ≡ upto (length c1) (λ i. (home_at First c1 c2 i).here)
+  pub second : s2 ≡ upto (length c1) (λ i. (home_at First c1 c2 i).there)
+  pub sums : Summed (home_rows First (jobs_in (length c1) c1 c2)) r
 
-abbrev pub says_ended : Ended → ℕ → (s1 s2 : List ℕ) → Answer (List Ticks)
-says_ended Split n s1 s2 = given (shares_in n s1 s2)
-says_ended (Refused r) n s1 s2 = says_refusal r
+-- A refusal says nothing of the columns.
+abbrev pub says_ended : Result (Unit {0}) Refusal → ℕ → (s1 s2 : List ℕ) → Answer (List Ticks)
+says_ended (Ok tt) n s1 s2 = given (shares_in n s1 s2)
+says_ended (Err r) n s1 s2 = says_refusal r
 
-abbrev pub ended_of : Kind → (within within-there : Bool) → Ended
-ended_of k s t = cond s (cond t Split (Refused OtherOver)) (Refused (on k FirstOver SecondOver))
-
--- Where the answer is a refusal, nothing is said of the first n.
-pub record Relieved (k : Kind) (n w room away : ℕ) (far here there here' there' : List ℕ) (r : Ended) : Type 0 where
-  pub answer : says_ended r n (on k here' there') (on k there' here')
-      ≡ settled k room away (steps_of n w room (rows_in n (marks_in n far here) far here there))
-  pub rest-here : drop n here' ≡ drop n here
-  pub rest-there : drop n there' ≡ drop n there
-
-pub record Answered (answer : Answer (List Ticks)) (n : ℕ) (s1 s2 s1' s2' : List ℕ) (r : Ended) : Type 0 where
-  pub is : says_ended r n s1' s2' ≡ answer
-  pub rest1 : drop n s1' ≡ drop n s1
-  pub rest2 : drop n s2' ≡ drop n s2
-
-abbrev pub none : Refusal → Shared
-none refusal = record { outcome = NoShares refusal; first = replicate jobs_most 0; second = replicate jobs_most 0 }
+abbrev pub ended_of : Kind → (within within-there : Bool) → Result (Unit {0}) Refusal
+ended_of k s t = cond s (cond t (Ok tt) (Err OtherOver)) (Err (on k FirstOver SecondOver))

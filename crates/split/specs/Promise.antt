@@ -9,7 +9,7 @@
 --   Exactly        with no stretched job, a legal set is refused for room exactly when no split exists at all
 --   Promised       the whole promise of the split: the answer, the demands, and when exactly a refusal is for room
 -- Assumes nothing.
-use Rattle.std.specs.Prelude.{◌≡◌, true, List, ◌↔◌, ℕ, ◌+◌, ◌-◌, ◌≤◌}
+use Rattle.std.specs.Prelude.{◌≡◌, true, List, ◌↔◌, ℕ, ◌+◌, ◌-◌, ◌≤◌, Result}
 use Rattle.rows.specs.Lists.{sum_of}
 use Rattle.model.specs.Board.{room_of}
 use Rattle.model.specs.Movers.{movers, unevens}
@@ -19,10 +19,11 @@ use Rattle.model.specs.declared.Kind.{Kind}
 use Rattle.model.specs.declared.Kind.TheVariants.{First, Second}
 use Rattle.model.specs.declared.Board.{Board}
 use Rattle.model.specs.declared.Job.{Job}
+use Rattle.model.specs.declared.Refusal.{Refusal}
 use Rattle.legal.specs.Legal.{legal_of}
 use Rattle.split.specs.Home.{stretched_at}
 use Rattle.split.specs.Shares.{shares_of, says_shared, Answers}
-use Rattle.split.specs.declared.Shared.{Shared}
+use Rattle.split.specs.declared.Shares.{Shares}
 
 abbrev pub stretched_on : Board → List Job → Kind → ℕ
 stretched_on board js k = sum_of (stretched_at k board.window) js
@@ -51,7 +52,7 @@ Exactly board n js answer =
     legal_of board n js ≡ given tt → stretched_on board js First ≡ 0 → stretched_on board js Second ≡ 0
     → (room_refusal answer ≡ true) ↔ (SplitOn board js → ⊥)
 
-pub record Promised (board : Board) (n : ℕ) (js : List Job) (r : Shared) : Type 0 where
+pub record Promised (board : Board) (n : ℕ) (js : List Job) (r : Result Shares Refusal) : Type 0 where
   pub answers : Answers (shares_of board n js) r
   pub demands : Demands board js (says_shared r)
   pub exactly : Exactly board n js (says_shared r)

@@ -11,13 +11,11 @@
 --   shares_of               the same of any set: checks 1 to 5 come first
 --   balance_on              what a kind has left before any job is moved
 --   balance_of              the starting balance of each kind, of any legal set
---   says_outcome            what an outcome says, with its two columns, as an answer by number and place
---   says_shared             the same of the outcome and the columns together
---   rows_of                 how many rows an outcome counts
---   Answers                 a result of the code that says so, with zeros in every row that it does not count
---   says_balanced           what the code's balance says, as an answer by number and place
+--   says_shared             what the code's answer says, as an answer by number and place: its columns are shares
+--   Padded                  columns with zeros in every row that they do not count
+--   Answers                 an answer of the code that says so, in such columns
 -- Assumes nothing.
-use Rattle.std.specs.Prelude.{◌≡◌, Bool, true, false, cond, List, map, ℕ, ◌-◌, ◌≤◌, leb, ltb, ℤ, pos, ◌-ℤ◌, length, drop, replicate}
+use Rattle.std.specs.Prelude.{◌≡◌, Bool, true, false, cond, List, map, ℕ, ◌-◌, ◌≤◌, leb, ltb, ℤ, pos, ◌-ℤ◌, length, drop, replicate, Result, Ok, Err, IfOk}
 use Rattle.model.specs.Board.{on, room_of}
 use Rattle.model.specs.Columns.{shares_in}
 use Rattle.model.specs.Refusal.{Answer, given, says_refusal, and_then}
@@ -27,17 +25,14 @@ use Rattle.model.specs.declared.Kind.{Kind}
 use Rattle.model.specs.declared.Kind.TheVariants.{First, Second}
 use Rattle.model.specs.declared.Board.{Board}
 use Rattle.model.specs.declared.Job.{Job}
+use Rattle.model.specs.declared.Refusal.{Refusal}
 use Rattle.model.specs.declared.Refusal.TheVariants.{BothOver, FirstOver, SecondOver, OtherOver}
 use Rattle.legal.specs.Legal.{legal_of}
 use Rattle.split.specs.Home.{at_home}
 use Rattle.split.specs.Steps.{here_sum, there_sum, steps_of}
 use Rattle.split.specs.Rows.{Row}
-use Rattle.split.specs.declared.Outcome.{Outcome}
-use Rattle.split.specs.declared.Outcome.TheVariants.{Shares, Refused}
-use Rattle.split.specs.declared.Shared.{Shared}
+use Rattle.split.specs.declared.Shares.{Shares}
 use Rattle.split.specs.declared.balance.Balance.{Balance}
-use Rattle.split.specs.declared.balance.Balanced.{Balanced}
-use Rattle.split.specs.declared.balance.Balanced.TheVariants.{Given, Refused as NoBalance}
 
 abbrev pub share_of : Kind → Row → Ticks
 share_of k r = share (on k r.here r.there) (on k r.there r.here)
@@ -91,23 +86,16 @@ abbrev pub balance_of : Board → ℕ → List Job → Answer Balance
 balance_of board n js =
     and_then (legal_of board n js) (λ (_ : Unit {0}). given (record { first = balance_on board js First; second = balance_on board js Second }))
 
-abbrev pub says_outcome : Outcome → (s1 s2 : List ℕ) → Answer (List Ticks)
-says_outcome (Shares n) s1 s2 = given (shares_in n s1 s2)
-says_outcome (Refused r) s1 s2 = says_refusal r
+abbrev pub says_shared : Result Shares Refusal → Answer (List Ticks)
+says_shared (Ok s) = given (shares_in s.count s.first s.second)
+says_shared (Err r) = says_refusal r
 
-abbrev pub says_shared : Shared → Answer (List Ticks)
-says_shared r = says_outcome r.outcome r.first r.second
+pub record Padded (s : Shares) : Type 0 where
+  pub few : s.count ≤ jobs_most
+  pub rest1 : drop s.count s.first ≡ replicate (jobs_most - s.count) 0
+  pub rest2 : drop s.count s.second ≡ replicate (jobs_most - s.count) 0
 
-abbrev pub rows_of : Outcome → ℕ
-rows_of (Shares n) = n
-rows_of (Refused r) = 0
-
-pub record Answers (answer : Answer (List Ticks)) (r : Shared) : Type 0 where
+-- A refusal has no columns.
+pub record Answers (answer : Answer (List Ticks)) (r : Result Shares Refusal) : Type 0 where
   pub says : says_shared r ≡ answer
-  pub few : rows_of r.outcome ≤ jobs_most
-  pub rest1 : drop (rows_of r.outcome) r.first ≡ replicate (jobs_most - rows_of r.outcome) 0
-  pub rest2 : drop (rows_of r.outcome) r.second ≡ replicate (jobs_most - rows_of r.outcome) 0
-
-abbrev pub says_balanced : Balanced → Answer Balance
-says_balanced (Given b) = given b
-says_balanced (NoBalance r) = says_refusal r
+  pub rest : IfOk r Padded

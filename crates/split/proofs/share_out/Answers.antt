@@ -1,6 +1,8 @@
--- `split::share_out` meets its contract: shares that were put into columns of zeros, or a refusal with fresh ones. Assumes nothing.
-use Rattle.split.proofs.Answers.{answers-shares}
+-- `split::share_out` meets its contract: the shares stand in the first rows of columns of zeros. Assumes nothing.
+use native.Mathlib.Omega.{arith}
+use borrow.Author.Rules.{rules}
+use Rattle.split.proofs.Answers.{answers_shares}
 use Rattle.split.proofs.share_out.Goals as goal
 
-pub returns-in-Split : goal.returns-in-Split
-returns-in-Split c = answers-shares c.args.n _ _ c.requires.1 (rw c.in-Split.is at c.split_legal.ensures)
+pub returns : goal.returns
+returns c = answers_shares _ _ _ c.args.n c.args.first.now c.args.second.now (omega arith) (omega arith) _ _ (search rules) (search rules) c.in_ok-split_legal.ensures

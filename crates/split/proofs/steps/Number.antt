@@ -1,9 +1,10 @@
 -- One job in numbers: its far end and all between its ends is whole and fits the window. A job costs c here and d there, in a window w, and has t
 -- ticks here between its ends. Where a difference stands in a product, a base form has a sum in its place. Assumes nothing.
 use mathlib.Core.Path.{◌≡◌, ap}
-use Prim.Native.Nat.{ℕ, ◌+◌, ◌*◌, ◌-◌, ◌≤◌, ◌<◌}
+use Prim.Native.Nat.{ℕ, ◌+◌, ◌*◌, ◌-◌, ◌/◌, ◌%◌, ◌≤◌, ◌<◌, min}
 use native.Mathlib.Nat.{mul-le-mul_left, mul-div-le, lt-mul-div-succ, lt_of_mul-lt-mul_left}
 use native.Mathlib.Omega.{arith}
+use Rattle.std.proofs.lemmas.Grind.{div_ceil_times}
 use Rattle.split.specs.Home.{ceil}
 
 -- The quotient that is rounded up.
@@ -17,6 +18,14 @@ ceil-below x y z pos h =
 
 pub ceil-least : (x y : ℕ) → 0 < y → x ≤ y * ceil x y
 ceil-least x y pos = omega (arith, lt-mul-div-succ (x + (y - 1)) pos)
+
+-- It is what `div_ceil` of the library gives.
+pub ceil_is : (x y : ℕ) → 0 < y → x / y + min 1 (x % y) ≡ ceil x y
+ceil_is x y pos =
+    let by = div_ceil_times x y pos in
+    let less : x / y + min 1 (x % y) < ceil x y + 1 = lt_of_mul-lt-mul_left y (omega (arith, by, ceil-least x y pos)) in
+    let more = ceil-below x y (x / y + min 1 (x % y)) pos (omega (arith, by)) in
+    omega arith
 
 -- What a stretched job keeps at its far end is at most its cost here.
 pub keep-most : (c d w : ℕ) → c ≤ w → w < d → ceil (c * (d - w)) (d - c) ≤ c

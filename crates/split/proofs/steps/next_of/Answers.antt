@@ -1,22 +1,19 @@
--- `split::steps::next_of` meets its contract. The invariant: the one found so far is the best of the rows passed, whatever their ticks.
--- Assumes nothing.
-use mathlib.Core.Path.{refl, ap, ◌∙◌}
+-- `split::steps::next_of` meets its contract: the best of one row more. Assumes nothing.
+use mathlib.Core.Path.{sym}
 use native.Mathlib.Omega.{arith}
-use Rattle.rows.specs.Upto.{at}
-use Rattle.split.specs.Steps.{next_from}
-use Rattle.split.specs.Columns.{better_of}
-use Rattle.split.specs.declared.steps.Best.{Best}
-use Rattle.split.proofs.steps.BestRow.{best-more}
+use borrow.Author.Rules.{rules}
+use borrow.Author.Tests.{ltb-true, ltb-false}
+use Rattle.split.proofs.steps.BestRow.{leading_first, leading_more, leading_still}
 use Rattle.split.proofs.steps.next_of.Goals as goal
+use Rattle.split.proofs.steps.next_of.Goals.{then-is_ahead, else-is_ahead}
 
 pub loop-i-init : goal.loop-i-init
-unfolding next_from
-loop-i-init c = (omega arith, record { near = omega arith; far = omega arith }, λ h t. refl)
+loop-i-init c = (omega arith, λ here there. leading_first _ _ here there c.in_ok-first.first (λ k l. search rules) (search rules))
 
 pub loop-i-preserved : goal.loop-i-preserved
 loop-i-preserved c =
-    let a = c.args in
-    let l = c.loop-i in
-    let e = c.better_of-found.ensures in
-    let next : Best → Best = λ x. better_of x l.i (at a.near.now l.i) (at a.far.now l.i) in
-    (omega arith, e.1, λ h t. e.0 ∙ ap next (l.invariant.2 h t) ∙ best-more a.n a.near.now a.far.now h t l.i)
+    let led = c.loop-i.invariant.1 in
+    elim c.if-is_ahead.branch [
+      | then-is_ahead w ↦ (omega arith, λ here there. rw w.best-is (leading_more _ _ here there _ _ (ltb-true _ _ (sym w.if-is_ahead.ensures)) (led here there)))
+      | else-is_ahead w ↦ (omega arith, λ here there. rw w.best-is (leading_still _ _ here there _ _ (ltb-false _ _ (sym w.if-is_ahead.ensures)) (led here there)))
+    ]
