@@ -12,7 +12,7 @@ use Rattle.model.specs.declared.Kind.{Kind}
 use Rattle.model.specs.declared.Kind.TheVariants.{First, Second}
 use Rattle.model.proofs.BothSides.{board, row}
 use Rattle.slices.specs.Fits.{Fits}
-use Rattle.slices.specs.Moves.{later_if, latest, moves, moves_of}
+use Rattle.slices.specs.Moves.{moves, moves_of}
 
 -- ==== Fits, on a board with one core of each kind
 abbrev On : List Ticks → Type 0
@@ -49,26 +49,20 @@ fits-no-window-not f = omega arith
 
 -- ==== moves_of, of job 0
 pub moves-none : moves_of (row 1 First 0 0 4 ∷ row 1 Second 0 4 4 ∷ []) 0 ≡ moves 0 0
-unfolding later_if latest
 moves-none = refl
 
 pub moves-one : moves_of (row 0 First 0 4 4 ∷ []) 0 ≡ moves 0 0
-unfolding later_if latest
 moves-one = refl
 
 pub moves-kinds : moves_of (row 0 First 0 0 4 ∷ row 0 Second 0 4 6 ∷ []) 0 ≡ moves 2 0
-unfolding later_if latest
 moves-kinds = refl
 
 pub moves-cores : moves_of (row 0 First 0 6 4 ∷ row 0 First 1 0 2 ∷ []) 0 ≡ moves 0 2
-unfolding later_if latest
 moves-cores = refl
 
 pub moves-three : moves_of (row 0 First 0 4 4 ∷ row 0 Second 0 0 4 ∷ row 0 Second 1 8 2 ∷ []) 0 ≡ moves 2 1
-unfolding later_if latest
 moves-three = refl
 
 -- No table has four slices of a job; with three every order goes round alike.
 pub moves-by-start : moves_of (row 0 First 0 0 2 ∷ row 0 First 1 4 2 ∷ row 0 Second 0 2 2 ∷ row 0 Second 1 6 2 ∷ []) 0 ≡ moves 4 0
-unfolding later_if latest
 moves-by-start = refl

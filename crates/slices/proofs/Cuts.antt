@@ -5,9 +5,10 @@ use mathlib.Core.Bool.{Bool, true, false, cond, ◌&&◌}
 use Prim.Native.Nat.{ℕ, ◌+◌, ◌-◌, ◌*◌, ◌/◌, ◌%◌, ◌≤◌, ◌<◌}
 use native.Mathlib.Nat.{div-add-mod', mod-lt, lt_of_mul-lt-mul_right, mul-le-mul_right}
 use native.Mathlib.Omega.{arith}
-use borrow.Author.Tests.{le-leb, leb-true, leb-false}
+use borrow.Author.Tests.{leb-true, leb-false}
 use lib.Dec.{leb, eqb}
 use lib.ListN.{length}
+use Rattle.std.proofs.lemmas.Bool.Decides.{nat_tests}
 use Rattle.rows.specs.Lists.{All, Pairs}
 use Rattle.model.specs.Board.{on, same_kind}
 use Rattle.model.specs.Timetable.{ticks_in}
@@ -71,43 +72,22 @@ module _ (k : Kind) (w o : ℕ) (p : Piece) (wide : 1 ≤ w) where
   -- The lengths of the slices of a run add up to it.
   pub cut-ticks : (kind : Kind) (job : ℕ) → ticks_in kind job (cut_of k w o p) ≡ cond (same_kind kind k && eqb p.job job) p.ticks 0
   unfolding cut_of
-  cut-ticks kind job = go (leb (o % w + p.ticks) w) refl (same_kind kind k && eqb p.job job) refl
-    where
-      go : (t : Bool) → leb (o % w + p.ticks) w ≡ t → (m : Bool) → (same_kind kind k && eqb p.job job) ≡ m
-          → ticks_in kind job (cut_of k w o p) ≡ cond m p.ticks 0
-      go true t true m = rw (t, m) (omega arith)
-      go true t false m = rw (t, m) (omega arith)
-      go false t true m = rw (t, m) (omega (arith, leb-false, mod-lt o {m = w} wide))
-      go false t false m = rw (t, m) (omega arith)
+  cut-ticks kind job = let rest = mod-lt o {m = w} wide in grind (arith, nat_tests)
 
   pub cut-length : length (cut_of k w o p) ≡ 1 + edges w o p
   unfolding cut_of
-  cut-length = go (leb (o % w + p.ticks) w) refl
-    where
-      go : (t : Bool) → leb (o % w + p.ticks) w ≡ t → length (cut_of k w o p) ≡ 1 + edges w o p
-      go true t = rw t
-      go false t = rw t
+  cut-length = grind (arith, nat_tests)
 
 -- A run passes one edge at most, and none where it is empty, or where an edge stands at its end or behind it.
 module _ (w o : ℕ) (p : Piece) (wide : 1 ≤ w) where
   pub edges_most : edges w o p ≤ 1
-  edges_most = go (leb (o % w + p.ticks) w)
-    where
-      go : (t : Bool) → cond t 0 1 ≤ 1
-      go true = omega arith
-      go false = omega arith
+  edges_most = grind (arith, nat_tests)
 
   pub edges-empty : p.ticks ≡ 0 → edges w o p ≡ 0
-  edges-empty none = rw (le-leb (o % w + p.ticks) w (omega (arith, mod-lt o {m = w} wide)))
+  edges-empty none = let rest = mod-lt o {m = w} wide in grind (arith, nat_tests)
 
   pub edges_none : (c : ℕ) → c * w ≤ o + w → o + p.ticks ≤ c * w → edges w o p ≡ 0
-  edges_none c near fits = go (leb (o % w + p.ticks) w) refl
-    where
-      go : (t : Bool) → leb (o % w + p.ticks) w ≡ t → ◌≡◌ {A = ℕ} (cond t 0 1) 0
-      go true t = refl
-      go false t =
-          let over : w < o % w + p.ticks = leb-false _ _ t in
-          let whole : o / w * w + o % w ≡ o = div-add-mod' o w in
-          let rest : o % w < w = mod-lt o {m = w} wide in
-          let past : o / w + 1 < c = lt_of_mul-lt-mul_right w (omega arith) in
-          absurd (omega (arith, mul-le-mul_right w past))
+  edges_none c near fits =
+      let whole : o / w * w + o % w ≡ o = div-add-mod' o w in
+      let rest : o % w < w = mod-lt o {m = w} wide in
+      grind (arith, nat_tests, lt_of_mul-lt-mul_right, mul-le-mul_right)

@@ -2,7 +2,7 @@
 -- come to 3·(m1 + m2) − 2 at the most. One idea: the movers stand first on each kind and begin as many cores as their ticks need. Behind them only
 -- the edges of the cores that are left can be passed, and on both kinds together they begin at least as many cores as they are. Assumes nothing.
 use mathlib.Core.Path.{◌≡◌, refl, sym, ap}
-use mathlib.Core.Bool.{Bool, true, false, cond}
+use mathlib.Core.Bool.{Bool, cond}
 use mathlib.Core.List.{List, [], ◌∷◌}
 use Prim.Native.Nat.{ℕ, ◌+◌, ◌-◌, ◌*◌, ◌/◌, ◌≤◌, ◌<◌}
 use native.Mathlib.Nat.{div-mul-le_self, lt-div-mul-add, lt_of_mul-lt-mul_right}
@@ -118,18 +118,10 @@ module _ (board : Board) (ss : List Ticks) where
         )
 
     both-count : (j : ℕ) → cond (is_mover (share_at ss j)) (2 + cuts_of w ss j) (2 * cuts_of w ss j) ≡ count_on First j + count_on Second j
-    both-count j = go (is_mover (share_at ss j)) (whole First) (whole Second)
-      where
-        whole : (k : Kind) → cut_if k w ss is_mover j + cut_if k w ss (alone k) j ≡ cut_at k w ss j
-        whole k = alone-whole k (share_at ss j) (cut_at k w ss j) (cut-none k w ss fits.some j)
-
-        go : (m : Bool) → cond m (cut_at First w ss j) 0 + cut_if First w ss (alone First) j ≡ cut_at First w ss j
-            → cond m (cut_at Second w ss j) 0 + cut_if Second w ss (alone Second) j ≡ cut_at Second w ss j
-            → cond m (2 + cuts_of w ss j) (2 * cuts_of w ss j)
-            ≡ cond m 1 0 + (cut_at First w ss j + cut_if First w ss (alone First) j)
-            + (cond m 1 0 + (cut_at Second w ss j + cut_if Second w ss (alone Second) j))
-        go true first second = omega arith
-        go false first second = omega arith
+    both-count j =
+        let whole : (k : Kind) → cut_if k w ss is_mover j + cut_if k w ss (alone k) j ≡ cut_at k w ss j =
+        λ k. alone-whole k (share_at ss j) (cut_at k w ss j) (cut-none k w ss fits.some j) in
+        grind (arith, whole First, whole Second)
 
     pub cuts-most : 1 ≤ board.first → 1 ≤ board.second
         → sum_below (length ss) (λ (j : ℕ). cond (is_mover (share_at ss j)) (2 + cuts_of w ss j) (2 * cuts_of w ss j)) + 2

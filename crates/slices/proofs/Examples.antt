@@ -5,7 +5,7 @@ use mathlib.Core.Path.{◌≡◌, refl}
 use Rattle.model.specs.Split.{share}
 use Rattle.model.specs.declared.Kind.TheVariants.{First, Second}
 use Rattle.model.proofs.BothSides.{row}
-use Rattle.slices.specs.Moves.{later_if, latest, moves, moves_of}
+use Rattle.slices.specs.Moves.{moves, moves_of}
 use Rattle.slices.specs.Table.{chosen, pieces_of, cut_of, packed, table_of}
 
 pub eight : table_of 10 (share 4 6 ∷ share 4 6 ∷ share 4 6 ∷ share 8 0 ∷ [])
@@ -19,5 +19,5 @@ unfolding chosen pieces_of cut_of packed table_of
 whole-example = refl
 
 pub edge-moves : map (moves_of (table_of 10 (share 6 0 ∷ share 6 0 ∷ []))) (0 ∷ 1 ∷ []) ≡ moves 0 0 ∷ moves 0 2 ∷ []
-unfolding chosen pieces_of cut_of packed table_of later_if latest
+unfolding chosen pieces_of cut_of packed table_of
 edge-moves = refl

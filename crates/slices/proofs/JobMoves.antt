@@ -1,16 +1,17 @@
 -- How often each job of the table moves, exactly. On the circle of the window a job's ticks on a kind are one arc: a run that is cut at the edge of a
 -- core goes on at the other end of the window. A mover's two runs begin at one tick of the circle and go apart, so the window's end cuts
 -- one of them at most. Assumes nothing.
-use mathlib.Core.Path.{◌≡◌, refl, sym, ap, subst, ◌∙◌}
+use mathlib.Core.Path.{◌≡◌, refl, sym, subst, ◌∙◌}
 use mathlib.Core.Bool.{Bool, true, false, true≢false, cond}
 use mathlib.Core.List.{List, ◌++◌}
 use mathlib.Core.Logic.{◌⊎◌, inl, inr}
 use Prim.Native.Nat.{ℕ, ◌+◌, ◌*◌, ◌/◌, ◌%◌, ◌≤◌, ◌<◌}
 use native.Mathlib.Nat.{div-add-mod', mod-lt, lt_of_mul-lt-mul_right, mul-le-mul_right}
 use native.Mathlib.Omega.{arith}
-use borrow.Author.Tests.{ne_eqb, leb-true, leb-false, ltb-true, ltb-false}
+use borrow.Author.Tests.{ne_eqb}
 use lib.Dec.{leb, ltb, eqb}
 use lib.ListN.{length}
+use Rattle.std.proofs.lemmas.Bool.Decides.{nat_tests}
 use Rattle.rows.specs.Numbered.{sum_below}
 use Rattle.rows.proofs.Lists.{all_map}
 use Rattle.rows.proofs.Numbered.{below-add, below-same}
@@ -37,17 +38,15 @@ use Rattle.slices.proofs.Totals.{count-jobs}
 
 -- Two positions that add up to whole windows stand at one tick of the circle, counted from its two ends.
 whole-rest : (w n a b : ℕ) → 1 ≤ w → a + b ≡ n * w → (a % w + b % w ≡ 0) ⊎ (a % w + b % w ≡ w)
-whole-rest w n a b wide e = go (ltb (a / w + b / w) n) refl (div-add-mod' a w) (div-add-mod' b w) (mod-lt a {m = w} wide) (mod-lt b {m = w} wide)
-  where
-    go : (t : Bool) → ltb (a / w + b / w) n ≡ t → a / w * w + a % w ≡ a → b / w * w + b % w ≡ b → a % w < w → b % w < w
-        → (a % w + b % w ≡ 0) ⊎ (a % w + b % w ≡ w)
-    go true t da db ra rb =
-        let few : n < a / w + b / w + 2 = lt_of_mul-lt-mul_right w (omega arith) in
-        let one : n ≡ a / w + b / w + 1 = omega (arith, ltb-true (a / w + b / w) n t) in
-        inr (omega (arith, ap (λ (q : ℕ). q * w) one))
-    go false t da db ra rb =
-        let all : n ≤ a / w + b / w = ltb-false (a / w + b / w) n t in
-        inl (omega (arith, mul-le-mul_right w all))
+whole-rest w n a b wide e =
+    let da = div-add-mod' a w in
+    let db = div-add-mod' b w in
+    let ra = mod-lt a {m = w} wide in
+    let rb = mod-lt b {m = w} wide in
+    let few : n < a / w + b / w + 2 = lt_of_mul-lt-mul_right w (omega arith) in
+    let all : n ≤ a / w + b / w → n * w ≤ (a / w + b / w) * w = λ h. mul-le-mul_right w h in
+    let one : a / w + b / w + 1 ≤ n → (a / w + b / w + 1) * w ≤ n * w = λ h. mul-le-mul_right w h in
+    grind (arith, all, one)
 
 -- How a job with a share stands in a table: the cuts of its runs, its moves, and its slices.
 data Exactly (s : Ticks) : ℕ → Moves → ℕ → Type 0 where
@@ -84,11 +83,7 @@ module _ {s : Ticks} where
   exactly-all (mover-cut e) = refl
 
   exactly-cuts : {cuts slices : ℕ} {m : Moves} → Exactly s cuts m slices → m.outer + m.inner ≡ cond (is_mover s) (2 + cuts) (2 * cuts)
-  exactly-cuts (no-share e) = go (is_mover s) refl
-    where
-      go : (t : Bool) → is_mover s ≡ t → ◌≡◌ {A = ℕ} 0 (cond t 2 0)
-      go true t = absurd (omega (arith, mover-some s t))
-      go false t = refl
+  exactly-cuts (no-share e) = grind (arith, nat_tests)
   exactly-cuts (alone e) = rw e
   exactly-cuts (alone-cut e) = rw e
   exactly-cuts (mover e) = rw e
@@ -122,18 +117,18 @@ module _ (board : Board) (ss : List Ticks) (fits : Fits board ss) (j : ℕ) (the
 
   -- The job's run on a kind: none, one in one slice, or one that is cut.
   data Run (k : Kind) : Type 0 where
-    none : ticks k ≡ 0 → ltb 0 (ticks k) ≡ false → leb (begins k + ticks k) w ≡ true → Run k
-    whole : 0 < ticks k → begins k + ticks k ≤ w → ltb 0 (ticks k) ≡ true → leb (begins k + ticks k) w ≡ true → Run k
-    cut : 0 < ticks k → w < begins k + ticks k → ltb 0 (ticks k) ≡ true → leb (begins k + ticks k) w ≡ false → Run k
+    none : ltb 0 (ticks k) ≡ false → leb (begins k + ticks k) w ≡ true → Run k
+    whole : ltb 0 (ticks k) ≡ true → leb (begins k + ticks k) w ≡ true → Run k
+    cut : ltb 0 (ticks k) ≡ true → leb (begins k + ticks k) w ≡ false → Run k
 
   run : (k : Kind) → Run k
   run k = go (ltb 0 (ticks k)) refl (leb (begins k + ticks k) w) refl
     where
       go : (a : Bool) → ltb 0 (ticks k) ≡ a → (b : Bool) → leb (begins k + ticks k) w ≡ b → Run k
-      go false a true b = none (omega (arith, ltb-false 0 (ticks k) a)) a b
-      go false a false b = absurd (omega (arith, inside k, ltb-false 0 (ticks k) a, leb-false (begins k + ticks k) w b))
-      go true a true b = whole (ltb-true 0 (ticks k) a) (leb-true (begins k + ticks k) w b) a b
-      go true a false b = cut (ltb-true 0 (ticks k) a) (leb-false (begins k + ticks k) w b) a b
+      go false a true b = none a b
+      go false a false b = absurd (grind (arith, nat_tests, inside k))
+      go true a true b = whole a b
+      go true a false b = cut a b
 
   -- The job's own rows, and what they tell.
   abbrev own : List Slice
@@ -144,36 +139,27 @@ module _ (board : Board) (ss : List Ticks) (fits : Fits board ss) (j : ℕ) (the
 
   told : Run First → Run Second → Told
   unfolding cut_of
-  told (none n1 a b) (none n2 c d) = rw (a, b, c, d) (no-share (omega arith))
-  told (whole s1 in1 a b) (none n2 c d) = rw (a, b, c, d) (by-moves (one-moves j First _ _ _) (alone (rw (a, c) refl)))
-  told (none n1 a b) (whole s2 in2 c d) = rw (a, b, c, d) (by-moves (one-moves j Second _ _ _) (alone (rw a refl)))
-  told (cut s1 over1 a b) (none n2 c d) =
-      rw (a, b, c, d) (by-moves (cores-moves j First _ _ _ _ _ (λ same. omega (arith, short))) (alone-cut (rw (a, c) refl)))
-  told (none n1 a b) (cut s2 over2 c d) =
-      rw (a, b, c, d) (by-moves (cores-moves j Second _ _ _ _ _ (λ same. omega (arith, inside Second, short))) (alone-cut (rw a refl)))
-  told (whole s1 in1 a b) (whole s2 in2 c d) = go (meet (rw (a, c) refl))
-    where
-      go : Meet → Told
-      go (inl e) = rw (c, d, a, b) (by-moves (kinds-moves j _ _ _ _ _ _ (λ same. omega (arith, short))) (mover (rw (a, c) refl)))
-      go (inr e) = rw (c, d, a, b) (by-moves (kinds-moves j _ _ _ _ _ _ (λ same. omega arith)) (mover (rw (a, c) refl)))
-  told (cut s1 over1 a b) (whole s2 in2 c d) = go (meet (rw (a, c) refl))
-    where
-      go : Meet → Told
-      go (inl e) = absurd (omega (arith, short))
-      go (inr e) = rw (c, d, a, b) (by-moves (first-cut-moves j _ _ _ _ _ _ _ _ (omega (arith, short)) (omega arith)) (mover-cut (rw (a, c) refl)))
-  told (whole s1 in1 a b) (cut s2 over2 c d) = go (meet (rw (a, c) refl))
-    where
-      go : Meet → Told
-      go (inl e) = absurd (omega (arith, short))
-      go (inr e) =
-          rw (c, d, a, b)
-          (by-moves (second-cut-moves j _ _ _ _ _ _ _ _ (omega (arith, inside Second)) (omega (arith, inside First, short)))
-          (mover-cut (rw (a, c) refl)))
-  told (cut s1 over1 a b) (cut s2 over2 c d) = go (meet (rw (a, c) refl))
-    where
-      go : Meet → Told
-      go (inl e) = absurd (omega (arith, short))
-      go (inr e) = absurd (omega (arith, short))
+  told (none a b) (none c d) = rw (a, b, c, d) (no-share (grind (arith, nat_tests)))
+  told (whole a b) (none c d) = rw (a, b, c, d) (by-moves (one-moves j First _ _ _) (alone (rw (a, c) refl)))
+  told (none a b) (whole c d) = rw (a, b, c, d) (by-moves (one-moves j Second _ _ _) (alone (rw a refl)))
+  told (cut a b) (none c d) =
+      rw (a, b, c, d) (by-moves (cores-moves j First _ _ _ _ _ (λ same. grind (arith, nat_tests, short))) (alone-cut (rw (a, c) refl)))
+  told (none a b) (cut c d) =
+      rw (a, b, c, d) (by-moves (cores-moves j Second _ _ _ _ _ (λ same. grind (arith, nat_tests, short, inside Second))) (alone-cut (rw a refl)))
+  told (whole a b) (whole c d) =
+      let m = meet (rw (a, c) refl) in
+      rw (c, d, a, b) (by-moves (kinds-moves j _ _ _ _ _ _ (λ same. grind (arith, nat_tests, short))) (mover (rw (a, c) refl)))
+  told (cut a b) (whole c d) =
+      let m = meet (rw (a, c) refl) in
+      rw (c, d, a, b)
+      (by-moves (first-cut-moves j _ _ _ _ _ _ _ _ (grind (arith, nat_tests, short)) (grind (arith, nat_tests, short)))
+      (mover-cut (rw (a, c) refl)))
+  told (whole a b) (cut c d) =
+      let m = meet (rw (a, c) refl) in
+      rw (c, d, a, b)
+      (by-moves (second-cut-moves j _ _ _ _ _ _ _ _ (grind (arith, nat_tests, inside, short)) (grind (arith, nat_tests, inside, short)))
+      (mover-cut (rw (a, c) refl)))
+  told (cut a b) (cut c d) = let m = meet (rw (a, c) refl) in absurd (grind (arith, nat_tests, short))
 
   abbrev rows : List Slice
   rows = table_of board.window ss

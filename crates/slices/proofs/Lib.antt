@@ -1,4 +1,4 @@
--- The guide to this crate's proofs, in reading order. Each function's own proof is in the folder of its name.
+-- The guide to this crate's proofs, in reading order. What the check does not find of a function's proof is in the folder of its name.
 
 -- Both sides of each line that a theorem's premise draws, and of what counts as a move. No crate cites it: it is `pub`, and first, because the
 -- checker takes public modules first, and a definition that is made weaker is then refused at an example that it makes false.

@@ -1,14 +1,13 @@
 -- The slices of pieces that stand one behind the other on a kind: where each stands, in which order, how long and how many they are.
 -- One idea: a piece is known by the position at which it begins, and what holds of every piece there holds of the slices of its run.
 -- Assumes nothing.
-use mathlib.Core.Path.{◌≡◌, refl}
-use mathlib.Core.Bool.{Bool, true, false, cond, ◌&&◌}
+use mathlib.Core.Path.{◌≡◌}
+use mathlib.Core.Bool.{cond}
 use mathlib.Core.List.{List, [], ◌∷◌, ◌++◌}
 use Prim.Native.Nat.{ℕ, ◌+◌, ◌*◌, ◌≤◌, ◌<◌}
 use native.Mathlib.Nat.{lt_of_mul-lt-mul_right}
 use native.Mathlib.Omega.{arith}
-use borrow.Author.Tests.{leb-true, leb-false}
-use lib.Dec.{leb, eqb}
+use lib.Dec.{eqb}
 use lib.ListN.{length, length-append}
 use Rattle.rows.specs.Lists.{All, Pairs, sum_of}
 use Rattle.rows.proofs.Lists.{all_map, all_append, pairs-append, sum-append}
@@ -50,18 +49,10 @@ module _ (k : Kind) (w : ℕ) (wide : 1 ≤ w) where
   pub packed-ticks : (kind : Kind) (job o : ℕ) (ps : List Piece)
       → ticks_in kind job (packed k w o ps) ≡ cond (same_kind kind k) (ticks_for job ps) 0
   unfolding packed
-  packed-ticks kind job o [] = go (same_kind kind k)
-    where
-      go : (t : Bool) → ◌≡◌ {A = ℕ} 0 (cond t 0 0)
-      go true = refl
-      go false = refl
+  packed-ticks kind job o [] = grind arith
   packed-ticks kind job o (p ∷ ps) =
       rw (sum-append (λ (s : Slice). cond (is_of kind job s) s.length 0) (cut_of k w o p) (packed k w (o + p.ticks) ps))
-      (rw (cut-ticks k w o p wide kind job, packed-ticks kind job (o + p.ticks) ps) (go (same_kind kind k)))
-    where
-      go : (t : Bool) → cond (t && eqb p.job job) p.ticks 0 + cond t (ticks_for job ps) 0 ≡ cond t (ticks_for job (p ∷ ps)) 0
-      go true = refl
-      go false = omega arith
+      (rw (cut-ticks k w o p wide kind job, packed-ticks kind job (o + p.ticks) ps) (grind arith))
 
   pub packed-length : (o : ℕ) (ps : List Piece) → length (packed k w o ps) ≡ length ps + cuts w o ps
   unfolding packed
@@ -103,15 +94,9 @@ module _ (k : Kind) (w : ℕ) (wide : 1 ≤ w) where
         → cuts w o ps + c ≤ m
     cuts-few m c o [] h low high begun within = omega arith
     cuts-few m c o (p ∷ ps) h low high begun within =
-        go (leb (o + p.ticks) (c * w)) refl (λ d l u b. cuts-few m d (o + p.ticks) ps h.1 l u b (omega arith))
-      where
-        go : (t : Bool) → leb (o + p.ticks) (c * w) ≡ t
-            → ((d : ℕ) → o + p.ticks ≤ d * w → d * w ≤ o + p.ticks + w → d ≤ m → cuts w (o + p.ticks) ps + d ≤ m)
-            → cuts w o (p ∷ ps) + c ≤ m
-        go true t more =
-            let fits : o + p.ticks ≤ c * w = leb-true _ _ t in
-            omega (arith, edges_none w o p wide c high fits, more c fits (omega arith) begun)
-        go false t more =
-            let over : c * w < o + p.ticks = leb-false _ _ t in
-            let next : c < m = lt_of_mul-lt-mul_right w (omega arith) in
-            omega (arith, edges_most w o p wide, more (c + 1) (omega (arith, sized o p h.0)) (omega arith) (omega arith))
+        let more : (d : ℕ) → o + p.ticks ≤ d * w → d * w ≤ o + p.ticks + w → d ≤ m → cuts w (o + p.ticks) ps + d ≤ m =
+        λ d l u b. cuts-few m d (o + p.ticks) ps h.1 l u b (omega arith) in
+        let size = sized o p h.0 in
+        let one = edges_most w o p wide in
+        let none = edges_none w o p wide c high in
+        grind (arith, more c, more (c + 1), lt_of_mul-lt-mul_right)

@@ -1,18 +1,17 @@
 -- The pieces of a kind: their ticks, how many they are, and the position at which each begins. One idea: exactly one of the three tests
 -- of the order holds of a share above 0, so a job has one piece, and what stands before it is a sum over shares. Assumes nothing.
 use mathlib.Core.Path.{◌≡◌, refl}
-use mathlib.Core.Bool.{Bool, true, false, cond, not, ◌&&◌}
+use mathlib.Core.Bool.{Bool, true, false, cond}
 use mathlib.Core.List.{List, [], ◌∷◌}
 use Prim.Native.Nat.{ℕ, zero, suc, ◌+◌, ◌≤◌, ◌<◌}
 use native.Mathlib.Omega.{arith}
-use borrow.Author.Tests.{ltb-false, eq-eqb, ne_eqb}
-use lib.Dec.{ltb, eqb}
 use lib.ListN.{length, get_or, take, length-append}
+use Rattle.std.proofs.lemmas.Bool.Decides.{nat_tests}
 use Rattle.rows.specs.Lists.{sum_of, count_of}
 use Rattle.rows.specs.Numbered.{sum_below}
 use Rattle.rows.proofs.Lists.{sum-append}
 use Rattle.rows.proofs.Numbered.{below-first}
-use Rattle.model.specs.Movers.{is_mover, is_even, movers}
+use Rattle.model.specs.Movers.{is_mover, movers}
 use Rattle.model.specs.Split.{Ticks, share, ticks_on, ticks_of}
 use Rattle.model.specs.declared.Kind.{Kind}
 use Rattle.model.specs.declared.Kind.TheVariants.{First, Second}
@@ -27,22 +26,8 @@ part test k s = cond (test s) (ticks_on k s) 0
 abbrev pub share_at : List Ticks → ℕ → Ticks
 share_at ss j = get_or ss j (share 0 0)
 
-nothing : (t : Bool) → ◌≡◌ {A = ℕ} (cond t 0 0) 0
-nothing true = refl
-nothing false = refl
-
 -- ---- the jobs of one test
 module _ (test : Ticks → Bool) (k : Kind) where
-  chosen-sum : (f : Piece → ℕ) (i : ℕ) (s : Ticks) (ss : List Ticks) → sum_of f (chosen test k i (s ∷ ss))
-      ≡ cond (test s) (f (record { job = i; ticks = ticks_on k s })) 0 + sum_of f (chosen test k (i + 1) ss)
-  unfolding chosen
-  chosen-sum f i s ss = go (test s)
-    where
-      go : (t : Bool) → sum_of f (cond t (record { job = i; ticks = ticks_on k s } ∷ chosen test k (i + 1) ss) (chosen test k (i + 1) ss))
-          ≡ cond t (f (record { job = i; ticks = ticks_on k s })) 0 + sum_of f (chosen test k (i + 1) ss)
-      go true = refl
-      go false = omega arith
-
   -- A sum over the pieces is one over the numbers of the jobs.
   pub chosen-below : (f : Piece → ℕ) (ss : List Ticks) → sum_of f (chosen test k 0 ss)
       ≡ sum_below (length ss) (λ (j : ℕ). cond (test (share_at ss j)) (f (record { job = j; ticks = ticks_on k (share_at ss j) })) 0)
@@ -54,9 +39,8 @@ module _ (test : Ticks → Bool) (k : Kind) where
           → sum_of f (chosen test k i ss) ≡ sum_below (length ss) g
       go i [] g h = refl
       go i (s ∷ ss) g h =
-          omega (
+          grind (
             arith,
-            chosen-sum f i s ss,
             below-first g (length ss),
             h 0 i (omega arith),
             go (i + 1) ss (λ n. g (suc n)) (λ n j e. h (suc n) j (omega arith)),
@@ -65,36 +49,24 @@ module _ (test : Ticks → Bool) (k : Kind) where
   pub chosen-total : (i : ℕ) (ss : List Ticks) → total (chosen test k i ss) ≡ sum_of (part test k) ss
   unfolding chosen
   chosen-total i [] = refl
-  chosen-total i (s ∷ ss) = omega (arith, chosen-sum (λ (p : Piece). p.ticks) i s ss, chosen-total (i + 1) ss)
+  chosen-total i (s ∷ ss) = grind (arith, chosen-total (i + 1) ss)
 
   chosen-length : (i : ℕ) (ss : List Ticks) → length (chosen test k i ss) ≡ count_of test ss
   unfolding chosen
   chosen-length i [] = refl
-  chosen-length i (s ∷ ss) = go (test s) (chosen-length (i + 1) ss)
-    where
-      go : (t : Bool) → length (chosen test k (i + 1) ss) ≡ count_of test ss
-          → length (cond t (record { job = i; ticks = ticks_on k s } ∷ chosen test k (i + 1) ss) (chosen test k (i + 1) ss))
-          ≡ cond t 1 0 + count_of test ss
-      go true h = omega arith
-      go false h = omega arith
+  chosen-length i (s ∷ ss) = grind (arith, chosen-length (i + 1) ss)
 
   chosen_none : (job i : ℕ) (ss : List Ticks) → job < i → ticks_for job (chosen test k i ss) ≡ 0
   unfolding chosen
   chosen_none job i [] h = refl
-  chosen_none job i (s ∷ ss) h =
-      rw (chosen-sum (λ (p : Piece). cond (eqb p.job job) p.ticks 0) i s ss, ne_eqb i job (λ same. omega arith))
-      (omega (arith, nothing (test s), chosen_none job (i + 1) ss (omega arith)))
+  chosen_none job i (s ∷ ss) h = grind (arith, nat_tests, chosen_none job (i + 1) ss (omega arith))
 
   chosen-for : (job i n : ℕ) (ss : List Ticks) → job ≡ i + n → n < length ss
       → ticks_for job (chosen test k i ss) ≡ part test k (share_at ss n)
   unfolding chosen
   chosen-for job i n [] e h = absurd (omega arith)
-  chosen-for job i zero (s ∷ ss) e h =
-      rw (chosen-sum (λ (p : Piece). cond (eqb p.job job) p.ticks 0) i s ss, eq-eqb i job (omega arith))
-      (omega (arith, chosen_none job (i + 1) ss (omega arith)))
-  chosen-for job i (suc n) (s ∷ ss) e h =
-      rw (chosen-sum (λ (p : Piece). cond (eqb p.job job) p.ticks 0) i s ss, ne_eqb i job (λ same. omega arith))
-      (omega (arith, nothing (test s), chosen-for job (i + 1) n ss (omega arith) (omega arith)))
+  chosen-for job i zero (s ∷ ss) e h = grind (arith, nat_tests, chosen_none job (i + 1) ss (omega arith))
+  chosen-for job i (suc n) (s ∷ ss) e h = grind (arith, nat_tests, chosen-for job (i + 1) n ss (omega arith) (omega arith))
 
   pub chosen_at : (P : ℕ → Piece → Type 0) (i o : ℕ) (ss : List Ticks)
       → ((n a j : ℕ) → n < length ss → j ≡ i + n → a ≡ o + sum_of (part test k) (take n ss) → test (share_at ss n) ≡ true
@@ -112,38 +84,23 @@ module _ (test : Ticks → Bool) (k : Kind) where
       go false t more = rw t (more o (rw t (omega arith)))
 
 -- ---- the three tests together
--- A mover is even or it is not: what the two tests count is what a mover counts.
-movers-whole : (w : ℕ) (s : Ticks) (n : ℕ) → cond (even_mover w s) n 0 + cond (other_mover w s) n 0 ≡ cond (is_mover s) n 0
-movers-whole w s n = go (is_mover s) (is_even w s)
-  where
-    go : (m e : Bool) → cond (m && e) n 0 + cond (m && not e) n 0 ≡ cond m n 0
-    go true true = omega arith
-    go true false = omega arith
-    go false e = omega arith
-
 -- A share above 0 on a kind is a mover's or is on this kind only: the two tests count any number that is 0 where the share is.
 pub alone-whole : (k : Kind) (s : Ticks) (n : ℕ) → (ticks_on k s ≡ 0 → n ≡ 0) → cond (is_mover s) n 0 + cond (alone k s) n 0 ≡ n
-alone-whole k s n none = go (is_mover s) (ltb 0 (ticks_on k s)) refl
-  where
-    go : (m t : Bool) → ltb 0 (ticks_on k s) ≡ t → cond m n 0 + cond (t && not m) n 0 ≡ n
-    go true true t = omega arith
-    go true false t = omega arith
-    go false true t = omega arith
-    go false false t = omega (arith, none (omega (arith, ltb-false)))
+alone-whole k s n none = grind (arith, nat_tests)
 
 pub tests-whole : (k : Kind) (w : ℕ) (s : Ticks) (n : ℕ) → (ticks_on k s ≡ 0 → n ≡ 0)
     → cond (even_mover w s) n 0 + (cond (other_mover w s) n 0 + cond (alone k s) n 0) ≡ n
-tests-whole k w s n none = omega (arith, movers-whole w s n, alone-whole k s n none)
+tests-whole k w s n none = grind (arith, nat_tests)
 
 -- The same of the ticks of all shares.
 pub movers-parts : (k : Kind) (w : ℕ) (ss : List Ticks)
     → sum_of (part (even_mover w) k) ss + sum_of (part (other_mover w) k) ss ≡ ticks_of_movers k ss
 movers-parts k w [] = refl
-movers-parts k w (s ∷ ss) = omega (arith, movers-whole w s (ticks_on k s), movers-parts k w ss)
+movers-parts k w (s ∷ ss) = grind (arith, movers-parts k w ss)
 
 pub alone-parts : (k : Kind) (ss : List Ticks) → ticks_of_movers k ss + sum_of (part (alone k) k) ss ≡ ticks_of k ss
 alone-parts k [] = refl
-alone-parts k (s ∷ ss) = omega (arith, alone-whole k s (ticks_on k s) (λ none. none), alone-parts k ss)
+alone-parts k (s ∷ ss) = grind (arith, nat_tests, alone-parts k ss)
 
 module _ (k : Kind) (w : ℕ) (ss : List Ticks) where
   pub pieces-for : (job : ℕ) → job < length ss → ticks_for job (pieces_of k w ss) ≡ ticks_on k (share_at ss job)
@@ -171,15 +128,7 @@ module _ (k : Kind) (w : ℕ) (ss : List Ticks) where
 pub pieces-few : (w : ℕ) (ss : List Ticks) → length (pieces_of First w ss) + length (pieces_of Second w ss) ≤ length ss + movers ss
 pieces-few w ss = rw (pieces-count First w ss, pieces-count Second w ss) (counts ss)
   where
-    one : (a b e : Bool) → cond (a && b && e) 1 0 + (cond (a && b && not e) 1 0 + cond (a && not (a && b)) 1 0)
-        + (cond (a && b && e) 1 0 + (cond (a && b && not e) 1 0 + cond (b && not (a && b)) 1 0)) ≤ 1 + cond (a && b) 1 0
-    one true true true = omega arith
-    one true true false = omega arith
-    one true false e = omega arith
-    one false true e = omega arith
-    one false false e = omega arith
-
     counts : (ss : List Ticks) → count_of (even_mover w) ss + (count_of (other_mover w) ss + count_of (alone First) ss)
         + (count_of (even_mover w) ss + (count_of (other_mover w) ss + count_of (alone Second) ss)) ≤ length ss + movers ss
     counts [] = omega arith
-    counts (s ∷ ss) = omega (arith, one (ltb 0 s.first) (ltb 0 s.second) (is_even w s), counts ss)
+    counts (s ∷ ss) = grind (arith, counts ss)

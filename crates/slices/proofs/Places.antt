@@ -1,13 +1,12 @@
 -- The position at which the piece of a job begins, as a sum over shares. One idea: the movers stand in the same order on both kinds, and
 -- all before one of them are even; so the positions of a mover on the two kinds add up to whole windows. Assumes nothing.
 use mathlib.Core.Path.{◌≡◌, refl}
-use mathlib.Core.Bool.{Bool, true, false, cond, not, ◌&&◌, and-eq-true_iff}
+use mathlib.Core.Bool.{Bool, true, false, cond}
 use mathlib.Core.List.{List, [], ◌∷◌, ◌++◌}
 use Prim.Native.Nat.{ℕ, ◌+◌, ◌*◌, ◌≤◌, ◌<◌}
 use native.Mathlib.Omega.{arith}
-use borrow.Author.Tests.{ltb-true, eqb-true, not-true}
-use lib.Dec.{ltb}
 use lib.ListN.{length, take}
+use Rattle.std.proofs.lemmas.Bool.Decides.{nat_tests}
 use Rattle.rows.specs.Lists.{sum_of, count_of}
 use Rattle.rows.proofs.Lists.{sum-take}
 use Rattle.model.specs.Movers.{is_mover, is_even, unevens}
@@ -80,19 +79,13 @@ pieces-placed k w ss =
         → Placed k w ss a (record { job = j; ticks = ticks_on k (share_at ss n) })
 
     even : Case (even_mover w) 0
-    even n a j l ej ea t =
-        let both = (and-eq-true_iff (is_mover (share_at ss n)) (is_even w (share_at ss n))).0 t in
-        placed n a j l ej (mover-ticks k (share_at ss n) both.0) (rw (both.0, both.1) (omega arith))
+    even n a j l ej ea t = placed n a j l ej (grind (arith, mover-ticks k)) (grind (arith, nat_tests))
 
     other : Case (other_mover w) evens
-    other n a j l ej ea t =
-        let both = (and-eq-true_iff (is_mover (share_at ss n)) (not (is_even w (share_at ss n)))).0 t in
-        placed n a j l ej (mover-ticks k (share_at ss n) both.0) (rw (both.0, not-true (is_even w (share_at ss n)) both.1) ea)
+    other n a j l ej ea t = placed n a j l ej (grind (arith, mover-ticks k)) (grind (arith, nat_tests))
 
     lone : Case (alone k) (evens + others)
-    lone n a j l ej ea t =
-        let both = (and-eq-true_iff (ltb 0 (ticks_on k (share_at ss n))) (not (is_mover (share_at ss n)))).0 t in
-        placed n a j l ej (ltb-true 0 (ticks_on k (share_at ss n)) both.0) (rw (not-true (is_mover (share_at ss n)) both.1) ea)
+    lone n a j l ej ea t = placed n a j l ej (grind (arith, nat_tests)) (grind (arith, nat_tests))
 
 -- The jobs that are on this kind only stand behind the movers.
 pub alone-placed : (k : Kind) (w : ℕ) (ss : List Ticks) → AllAt (Placed k w ss) (ticks_of_movers k ss) (chosen (alone k) k 0 ss)
@@ -108,24 +101,11 @@ alone-placed k w ss =
 evens-whole : (w : ℕ) (ss : List Ticks)
     → sum_of (part (even_mover w) First) ss + sum_of (part (even_mover w) Second) ss ≡ count_of (even_mover w) ss * w
 evens-whole w [] = omega arith
-evens-whole w (s ∷ ss) = go (is_mover s) (is_even w s) refl (evens-whole w ss)
-  where
-    go : (m e : Bool) → is_even w s ≡ e
-        → sum_of (part (even_mover w) First) ss + sum_of (part (even_mover w) Second) ss ≡ count_of (even_mover w) ss * w
-        → cond (m && e) s.first 0 + sum_of (part (even_mover w) First) ss + (cond (m && e) s.second 0 + sum_of (part (even_mover w) Second) ss)
-        ≡ (cond (m && e) 1 0 + count_of (even_mover w) ss) * w
-    go true true e h = omega (arith, eqb-true (s.first + s.second) w e)
-    go true false e h = omega arith
-    go false e eq h = omega arith
+evens-whole w (s ∷ ss) = grind (arith, nat_tests, evens-whole w ss)
 
 count_none : (test : Ticks → Bool) (k : Kind) (ss : List Ticks) → count_of test ss ≡ 0 → sum_of (part test k) ss ≡ 0
 count_none test k [] h = refl
-count_none test k (s ∷ ss) h = go (test s) h (count_none test k ss)
-  where
-    go : (t : Bool) → cond t 1 0 + count_of test ss ≡ 0 → (count_of test ss ≡ 0 → sum_of (part test k) ss ≡ 0)
-        → cond t (ticks_on k s) 0 + sum_of (part test k) ss ≡ 0
-    go true h more = absurd (omega arith)
-    go false h more = omega (arith, more (omega arith))
+count_none test k (s ∷ ss) h = grind (arith, count_none test k ss)
 
 pub offset-whole : (w : ℕ) (ss : List Ticks) (j : ℕ) → unevens w ss ≤ 1 → j < length ss → is_mover (share_at ss j) ≡ true
     → (n : ℕ) × (offset First w ss j + offset Second w ss j ≡ n * w)

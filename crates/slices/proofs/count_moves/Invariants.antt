@@ -1,20 +1,10 @@
--- `slices::count_moves` meets its contract. The invariant: each count, with that of the rows that are left, is the count of all.
--- Assumes nothing.
-use mathlib.Core.Path.{◌≡◌}
-use mathlib.Core.List.{List}
-use Prim.Native.Nat.{◌+◌, ◌-◌, ◌≤◌}
-use lib.ListN.{take, drop}
-use Rattle.rows.specs.Lists.{count_of}
-use Rattle.model.specs.declared.Slice.{Slice}
+-- `slices::count_moves` meets its contract. The invariant: each count is that of the rows so far. Assumes nothing.
+use Rattle.std.proofs.Common.{◌≡◌, take}
+use Rattle.std.specs.List.{count_by}
 use Rattle.slices.specs.Moves.{is_outer, is_inner, counted}
 use Rattle.slices.proofs.count_moves.Given as goal
 
-abbrev pub invariant-loop-i : goal.invariant-loop-i
-invariant-loop-i l =
-    let all : List Slice = take l.n l.rows in
-    (l.i ≤ l.n) × (l.outer ≤ l.i) × (l.inner ≤ l.i) ×
-    (l.outer + count_of (counted is_outer all l.job) (drop l.i all) ≡ count_of (counted is_outer all l.job) all) ×
-    (l.inner + count_of (counted is_inner all l.job) (drop l.i all) ≡ count_of (counted is_inner all l.job) all)
-
-abbrev pub decreases-loop-i : goal.decreases-loop-i
-decreases-loop-i l = l.n - l.i
+abbrev pub invariant-loop-s : goal.invariant-loop-s
+invariant-loop-s l =
+    (l.outer ≡ count_by (counted is_outer l.rows l.job) (take l.s-index l.rows)) ×
+    (l.inner ≡ count_by (counted is_inner l.rows l.job) (take l.s-index l.rows))
