@@ -3,12 +3,14 @@
 --   ticks-back     the ticks of the shares of two columns are the first numbers of the columns
 --   shares-front   shares are read back from columns that have their ticks at the front
 --   slices-front   slices are read back from a column that has their numbers at the front
---   put_same       columns whose first numbers were put into others have the same shares there
+--   shares-taken   the first numbers of two columns have the same shares by themselves
 use mathlib.Core.Path.{◌≡◌, refl, ap, ◌∙◌}
 use mathlib.Core.List.{List, [], ◌∷◌, ◌++◌, map}
 use Prim.Native.Nat.{ℕ, zero, suc, ◌≤◌}
 use native.Mathlib.Nat.{not-suc-le-zero, le_of_suc-le-suc}
-use lib.ListN.{length, take, drop}
+use lib.ListN.{length, take}
+use lib.Seq.{length-take-le}
+use Rattle.std.proofs.lemmas.List.{append-nil}
 use Rattle.rows.specs.Upto.{at}
 use Rattle.rows.specs.Lists.{All}
 use Rattle.rows.proofs.Upto.{upto-length, upto-map, upto_take}
@@ -39,11 +41,8 @@ pub slices-front : (ls : List Slice) (l : List ℕ) → All Narrow ls → slices
 slices-front [] l narrow = refl
 slices-front (s ∷ ls) l narrow = rw (packed-back s narrow.0, slices-front ls l narrow.1)
 
--- Columns whose first numbers were put into others have the same shares there.
-module _ (count : ℕ) (a b s1 s2 s1' s2' : List ℕ) (fits1 : count ≤ length a) (fits2 : count ≤ length b)
-    (put1 : s1' ≡ take count a ++ drop count s1) (put2 : s2' ≡ take count b ++ drop count s2) where
-  pub put_same : shares_in count s1' s2' ≡ shares_in count a b
-  put_same =
-      rw (put1, put2)
-      (rw (upto-length count (λ i. share (at a i) (at b i)), ticks-back First count a b fits1, ticks-back Second count a b fits2) at
-      (shares-front (shares_in count a b) (drop count s1) (drop count s2)))
+pub shares-taken : (n : ℕ) (a b : List ℕ) → n ≤ length a → n ≤ length b → shares_in (length (take n a)) (take n a) (take n b) ≡ shares_in n a b
+shares-taken n a b fits1 fits2 =
+    rw (length-take-le n a fits1)
+    (rw (upto-length n (λ i. share (at a i) (at b i)), append-nil (map (ticks_on First) (shares_in n a b)), append-nil (map (ticks_on Second) (shares_in n a b)), ticks-back First n a b fits1, ticks-back Second n a b fits2) at
+    (shares-front (shares_in n a b) [] []))

@@ -1,5 +1,5 @@
--- Open PlanColumns first. The proof that a function meets its contract is in the folder of its name; these are what such proofs cite, and what the
--- proofs of crate planner cite of the same plans.
+-- Open PlanColumns first. What the check does not find of the proof that a function meets its contract is in the folder of its name;
+-- these are what such proofs cite, and what the proofs of crate planner cite of the same plans.
 --
 -- The promise of `plan_columns`, of each of its answers.
 pub mod PlanColumns

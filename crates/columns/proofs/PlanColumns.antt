@@ -1,7 +1,7 @@
 -- The promise of `plan_columns`, of each of its answers: what it puts into columns is the plan's. Assumes nothing.
 --   ticks_after, slices_after   a column of ticks and one of slices after the call, by what it answers
 --   columns-enough              columns that are not too short have a row for each job and for each slice of every plan
---   columned-refused            a set that gets no shares
+--   columned-refused            a set that gets no shares; what the check finds alone, as the next
 --   columned-short              columns that are too short
 --   columned-plan               a plan
 use mathlib.Core.Path.{◌≡◌, refl, sym, ap, ◌∙◌}
@@ -12,6 +12,7 @@ use borrow.Author.Tests.{ltb-false}
 use lib.Dec.{ltb}
 use lib.ListN.{length, take, drop, length-map}
 use lib.Seq.{length-take-le}
+use Rattle.std.specs.Prelude.{Ok, Err}
 use Rattle.rows.specs.Upto.{at}
 use Rattle.rows.specs.Lists.{front}
 use Rattle.rows.proofs.Never.{never}
@@ -32,8 +33,7 @@ use Rattle.slices.specs.Table.{table_of}
 use Rattle.columns.specs.Packing.{Tabled}
 use Rattle.columns.specs.Plan.{Plan, plan_from, shares_given, slices_given, counts_in, too_short, columns_of}
 use Rattle.columns.specs.Promise.{Columned}
-use Rattle.columns.specs.declared.Planned.TheVariants.{Plan as Counted, Refused}
-use Rattle.columns.proofs.ColumnFronts.{ticks-back, put_same}
+use Rattle.columns.proofs.ColumnFronts.{ticks-back, shares-taken}
 
 abbrev pub ticks_after : Kind → List ℕ → Answer Plan → List ℕ
 ticks_after k column x = front (map (ticks_on k) (shares_given x)) column
@@ -56,7 +56,7 @@ module _ (board : Board) (n : ℕ) (js : List Job) (s1 s2 rows : List ℕ) where
   answer = columns_of board n js (length s1) (length s2) (length rows)
 
   -- A refusal leaves every column as it was.
-  columned-none : (r : Refusal) → says_refusal r ≡ answer → Columned board n js s1 s2 rows (Refused r) s1 s2 rows
+  columned-none : (r : Refusal) → says_refusal r ≡ answer → Columned board n js s1 s2 rows (Err r) s1 s2 rows
   columned-none r e =
       record {
         says = ap counts_in e;
@@ -65,22 +65,23 @@ module _ (board : Board) (n : ℕ) (js : List Job) (s1 s2 rows : List ℕ) where
         slices = ap (slices_after rows) e;
       }
 
-  pub columned-refused : (r : Refusal) → says_refusal r ≡ shares_of board n js → Columned board n js s1 s2 rows (Refused r) s1 s2 rows
+  pub columned-refused : (r : Refusal) → says_refusal r ≡ shares_of board n js → Columned board n js s1 s2 rows (Err r) s1 s2 rows
   columned-refused r e =
       columned-none r
       (ap (λ (x : Answer (List Ticks)). and_then x (λ (ss : List Ticks). cond (too_short (length s1) (length s2) (length rows)) (refused 7 0) (given (plan_from board ss)))) e)
 
   pub columned-short : {ss : List Ticks} → shares_of board n js ≡ given ss → too_short (length s1) (length s2) (length rows) ≡ true
-      → Columned board n js s1 s2 rows (Refused TooShort) s1 s2 rows
+      → Columned board n js s1 s2 rows (Err TooShort) s1 s2 rows
   columned-short is e = columned-none TooShort (rw (is, e) refl)
 
-  -- The shares of two columns a and b, put into those that are lent.
+  -- The shares of the first `count` numbers of two columns a and b, which are put into those that are lent.
   pub columned-plan : (count r : ℕ) (a b s1' s2' rows' : List ℕ) → count ≤ length a → count ≤ length b → shares_of board n js ≡ given (shares_in count a b)
       → too_short (length s1) (length s2) (length rows) ≡ false → s1' ≡ take count a ++ drop count s1 → s2' ≡ take count b ++ drop count s2
-      → Tabled board.window (shares_in count s1' s2') rows rows' r → Columned board n js s1 s2 rows (Counted count r) s1' s2' rows'
+      → Tabled board.window (shares_in (length (take count a)) (take count a) (take count b)) rows rows' r
+      → Columned board n js s1 s2 rows (Ok (record { jobs = count; slices = r })) s1' s2' rows'
   columned-plan count r a b s1' s2' rows' fits1 fits2 is long put1 put2 tabled' =
       let ss : List Ticks = shares_in count a b in
-      let tabled : Tabled board.window ss rows rows' r = rw (put_same count a b s1 s2 s1' s2' fits1 fits2 put1 put2) at tabled' in
+      let tabled : Tabled board.window ss rows rows' r = rw (shares-taken count a b fits1 fits2) at tabled' in
       let size : count ≡ length ss = sym (upto-length count (λ i. share (at a i) (at b i))) in
       let plan : given (plan_from board ss) ≡ answer = rw (is, long) refl in
       record {

@@ -35,16 +35,15 @@ use Rattle.slices.specs.Fits.{Fits}
 use Rattle.slices.specs.Table.{table_of}
 use Rattle.slices.proofs.Counts.{table-few}
 use Rattle.columns.specs.Packing.{TableAsks}
-use Rattle.columns.specs.Plan.{Plan, Counts, shares_given, slices_given, counts_in, says_planned}
-use Rattle.columns.specs.declared.Planned.TheVariants.{Plan as Counted}
+use Rattle.columns.specs.Plan.{Plan, shares_given, slices_given, counts_in}
+use Rattle.columns.specs.declared.Counts.{Counts}
 
 -- ---- what an answer counts
-pub counts-are : (jobs slices : ℕ) (x : Answer Plan) → says_planned (Counted jobs slices) ≡ counts_in x
-    → (jobs ≡ length (shares_given x)) × (slices ≡ length (slices_given x))
-counts-are jobs slices (given p) says =
-    let same : ◌≡◌ {A = Counts} (record { jobs = jobs; slices = slices }) (record { jobs = length p.shares; slices = length p.slices }) = cc in
-    (ap (λ (c : Counts). c.jobs) same, ap (λ (c : Counts). c.slices) same)
-counts-are jobs slices (refused number place) says = never (cc)
+pub counts-are : (c : Counts) (x : Answer Plan) → given c ≡ counts_in x → (c.jobs ≡ length (shares_given x)) × (c.slices ≡ length (slices_given x))
+counts-are c (given p) says =
+    let same : c ≡ record { jobs = length p.shares; slices = length p.slices } = cc in
+    (ap (λ (d : Counts). d.jobs) same, ap (λ (d : Counts). d.slices) same)
+counts-are c (refused number place) says = never (cc)
 
 -- ---- accepted shares
 abbrev Each : ℕ → List Ticks → Type 0

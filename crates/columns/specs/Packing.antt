@@ -10,7 +10,7 @@
 --   placed       a table that is being filled after one more piece
 --   filled       the same after several
 --   passed       the same after a pass over shares, whose jobs are numbered from i
---   Sized        shares of a legal size: not too many, and each job's two within the window
+--   Sized        two such columns of one length, of shares of a legal size: not too many, and each job's two within the window
 --   Asks         what has to be known where the code begins, by the table that it ends with: it has the rows and the cores
 --   Stands       the code stands where a table that is being filled is
 --   Rowed        the rows of such a table are there, and are counted
@@ -40,8 +40,8 @@ class_of Alone k w s = alone k s
 abbrev pub share_on : Kind → (mine other : ℕ) → Ticks
 share_on k mine other = share (on k mine other) (on k other mine)
 
-abbrev pub shares_on : Kind → ℕ → (mine other : List ℕ) → List Ticks
-shares_on k n mine other = upto n (λ i. share_on k (at mine i) (at other i))
+abbrev pub shares_on : Kind → (mine other : List ℕ) → List Ticks
+shares_on k mine other = upto (length mine) (λ i. share_on k (at mine i) (at other i))
 
 pub record Filling : Type 0 where
   pub rows : List ℕ
@@ -70,9 +70,10 @@ filled k w t (p ∷ ps) = filled k w (placed k w t p) ps
 abbrev pub passed : Class → Kind → ℕ → Filling → ℕ → List Ticks → Filling
 passed class k w t i ss = filled k w t (chosen (class_of class k w) k i ss)
 
-pub record Sized (w : ℕ) (ss : List Ticks) : Type 0 where
-  pub few : length ss ≤ jobs_most
-  pub each : All (λ (s : Ticks). s.first + s.second ≤ w) ss
+pub record Sized (k : Kind) (w : ℕ) (mine other : List ℕ) : Type 0 where
+  pub same : length other ≡ length mine
+  pub few : length mine ≤ jobs_most
+  pub each : All (λ (s : Ticks). s.first + s.second ≤ w) (shares_on k mine other)
 
 pub record Asks (w : ℕ) (column : List ℕ) (p : Spot) (end : Filling) : Type 0 where
   pub short : w ≤ window_most

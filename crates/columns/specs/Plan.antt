@@ -4,23 +4,20 @@
 --   fitted                       refusal 7 where a lent table has too few rows
 --   plan_of                      the plan of any set, for tables of m shares and k slices
 --   shares_given, slices_given   the rows that an answer gives: none where the set is refused
---   Counts                       how many shares a plan has, and how many slices
 --   counts_in                    what the planning call answers: the counts of both
---   says_planned                 what the code's answer says: counts, or a refusal by its number and its place
 --   too_short                    columns of m1 and m2 ticks and k slices that cannot hold the plan of every set
 --   columns_of                   the plan of any set, for such columns: refusal 7 where one is too short, whatever the set
 -- Assumes nothing.
 use Rattle.std.specs.Prelude.{Bool, cond, ◌||◌, List, [], ℕ, ltb, length}
 use Rattle.model.specs.Limits.{jobs_most, slices_most}
-use Rattle.model.specs.Refusal.{Answer, given, refused, says_refusal, and_then}
+use Rattle.model.specs.Refusal.{Answer, given, refused, and_then}
 use Rattle.model.specs.Split.{Ticks}
 use Rattle.model.specs.declared.Board.{Board}
 use Rattle.model.specs.declared.Job.{Job}
 use Rattle.model.specs.declared.Slice.{Slice}
 use Rattle.split.specs.Shares.{shares_of}
 use Rattle.slices.specs.Table.{table_of}
-use Rattle.columns.specs.declared.Planned.{Planned}
-use Rattle.columns.specs.declared.Planned.TheVariants.{Plan as Counted, Refused}
+use Rattle.columns.specs.declared.Counts.{Counts}
 
 pub record Plan : Type 0 where
   pub shares : List Ticks
@@ -43,17 +40,9 @@ abbrev pub slices_given : Answer Plan → List Slice
 slices_given (given p) = p.slices
 slices_given (refused number place) = []
 
-pub record Counts : Type 0 where
-  pub jobs : ℕ
-  pub slices : ℕ
-
 abbrev pub counts_in : Answer Plan → Answer Counts
 counts_in (given p) = given (record { jobs = length p.shares; slices = length p.slices })
 counts_in (refused number place) = refused number place
-
-abbrev pub says_planned : Planned → Answer Counts
-says_planned (Counted jobs slices) = given (record { jobs = jobs; slices = slices })
-says_planned (Refused r) = says_refusal r
 
 abbrev pub too_short : (m1 m2 k : ℕ) → Bool
 too_short m1 m2 k = ltb m1 jobs_most || ltb m2 jobs_most || ltb k slices_most

@@ -6,49 +6,30 @@
 
 mod packing;
 
-ghost use Rattle.std.specs.Prelude.{◌≡◌, ◌++◌, ◌≤◌, length, take, drop};
+ghost use Rattle.std.specs.Prelude.{◌≡◌};
 ghost use Rattle.model.specs.Columns.{jobs_in};
-ghost use Rattle.model.specs.Limits.{jobs_most};
 ghost use Rattle.columns.specs.Plan.{too_short};
 ghost use Rattle.columns.specs.Promise.{Columned};
 
 use model::{Board, JOBS_MOST, Refusal, SLICES_MOST};
-use split::Outcome;
 
-// The counts of a plan's shares and slices, or a refusal.
-#[derive(Clone, Copy)]
-pub enum Planned {
-    Plan(usize, usize),
-    Refused(Refusal),
+// How many shares a plan has, one for each job, and how many slices.
+#[derive(Clone, Copy, PartialEq, Eq)]
+pub struct Counts {
+    pub jobs: usize,
+    pub slices: usize,
 }
 
-// Whether columns are too short for some set.
+// Whether columns are too short for some set. Crate reader asks it of its two: one public function for both would stand for a line.
 fn are_too_short(first: usize, second: usize, slices: usize) -> bool
     ensures { result ≡ too_short first second slices }
 {
-    if first < JOBS_MOST {
-        return true;
-    }
-    if second < JOBS_MOST {
-        return true;
-    }
-    slices < SLICES_MOST
-}
-
-// The first `n` numbers of a column become these ticks, and the others stay.
-fn put_ticks(ticks: [u16; JOBS_MOST], n: usize, column: &mut [u16])
-    requires { (n ≤ jobs_most) × (n ≤ length column.old) }
-    ensures { column.new ≡ take n ticks ++ drop n column.old }
-{
-    let mut i: usize = 0;
-    while i < n {
-        column[i] = ticks[i];
-        i += 1;
-    }
+    first < JOBS_MOST || second < JOBS_MOST || slices < SLICES_MOST
 }
 
 // The plan of the first `n` jobs of two columns of costs, into columns of its shares and its slices. More than 64 jobs can be asked for, and are
 // refused. Columns that are too short for some set are refused by 7, last of all.
+// The columns stay lent, and are no struct that is handed back: `Columned` tells every row of them, also of a refused set, and memory is fixed.
 pub fn plan_columns(
     board: Board,
     first: &[u32; JOBS_MOST],
@@ -57,23 +38,18 @@ pub fn plan_columns(
     shares1: &mut [u16],
     shares2: &mut [u16],
     slices: &mut [u64],
-) -> Planned
+) -> Result<Counts, Refusal>
     ensures { Columned board n (jobs_in n first.now second.now) shares1.old shares2.old slices.old result shares1.new shares2.new slices.new }
 {
-    let shared = split::split(board, first, second, n);
-    let outcome = shared.outcome;
-    match outcome {
-        Outcome::Refused(refusal) => Planned::Refused(refusal),
-        Outcome::Shares(count) => {
-            if are_too_short(shares1.len(), shares2.len(), slices.len()) {
-                return Planned::Refused(Refusal::TooShort);
-            }
-            let ticks1 = shared.first;
-            let ticks2 = shared.second;
-            put_ticks(ticks1, count, shares1);
-            put_ticks(ticks2, count, shares2);
-            let rows = packing::table(board.window, shares1, shares2, count, slices);
-            Planned::Plan(count, rows)
-        }
+    let shares = split::split(board, first, second, n)?;
+    if are_too_short(shares1.len(), shares2.len(), slices.len()) {
+        return Err(Refusal::TooShort);
     }
+    let jobs = shares.count;
+    let ticks1 = &shares.first[..jobs];
+    let ticks2 = &shares.second[..jobs];
+    shares1[..jobs].copy_from_slice(ticks1);
+    shares2[..jobs].copy_from_slice(ticks2);
+    let slices = packing::table(board.window, ticks1, ticks2, slices);
+    Ok(Counts { jobs, slices })
 }

@@ -4,6 +4,9 @@
 //
 // Each kind is packed in three passes over the jobs: the even movers, the mover that is not even, and those that are on this kind only.
 // A pass knows a job's ticks on its own kind and on the other: the same code serves both kinds, with the two columns exchanged.
+//
+// The kind, the window, the spot and the lent column are passed one by one, and each function asks for what it needs of them. A struct that held them
+// would be no plainer: each function would have to promise that the column is still the same one. What is cast in `slice_of` fits, as is asked for.
 ghost use Rattle.std.specs.Prelude.{◌≡◌, [], ◌∷◌, ◌+◌, ◌-◌, ◌≤◌, ◌<◌, length};
 ghost use Rattle.model.specs.Board.{on};
 ghost use Rattle.model.specs.Columns.{shares_in};
@@ -15,9 +18,9 @@ ghost use Rattle.model.specs.declared.Kind.TheVariants.{First};
 ghost use Rattle.slices.specs.Table.{slice_of, pieces_of};
 ghost use Rattle.columns.specs.Packing.{class_of, share_on, shares_on, filling_of, begun, placed, filled, passed, Sized, Asks, Stands, Rowed, TableAsks, Tabled};
 
-use model::Kind;
+use model::{Kind, Slice};
 
-// The jobs that one pass over a kind places.
+// The jobs that one pass over a kind places. With a closure in its place `pack` and `put_job` would each have a clause more, of which jobs it picks.
 #[derive(Clone, Copy)]
 enum Class {
     Even,
@@ -65,49 +68,47 @@ fn start_of(kind: Kind, w: u32, at: u32, length: u32) -> u32
 
 // A job's slice at a place of a core, as one number: crate model, specs/Packed.antt.
 fn slice_of(kind: Kind, w: u32, job: usize, core: u32, at: u32, length: u32) -> u64
-    requires { (w ≤ window_most) × (job < jobs_most) × (at + length ≤ w) }
+    requires { (w ≤ window_most) × (job < jobs_most) × (at + length ≤ w) × (core < 256) }
     ensures { result ≡ pack_of (slice_of kind w job core at length) }
 {
-    let start = start_of(kind, w, at, length);
-    let number = model::kind_number(kind);
-    (job as u64)
-        + 256 * (number as u64)
-        + 65536 * (core as u64)
-        + 16777216 * (start as u64)
-        + 1099511627776 * (length as u64)
+    u64::from(Slice {
+        job: job as u8,
+        kind,
+        core: core as u8,
+        start: start_of(kind, w, at, length) as u16,
+        length: length as u16,
+    })
 }
 
 // The slices of a job's run of ticks from a place on, and the place behind it. A run that ends exactly on the edge of a core is not cut.
+#[tactic(auto, using(crate::proofs::packing::Filling::runs))]
 fn put_run(kind: Kind, w: u32, job: usize, ticks: u32, p: Spot, slices: &mut [u64]) -> Spot
     requires { (job < jobs_most) × (ticks ≤ w) × Asks w slices.old p (placed kind w (filling_of w slices.old p) (record { job = job; ticks = ticks })) }
     ensures { Stands w (placed kind w (filling_of w slices.old p) (record { job = job; ticks = ticks })) slices.new result }
 {
-    let count = p.count;
-    let core = p.core;
-    let at = p.at;
-    let here = w - at;
-    if ticks < here {
-        slices[count] = slice_of(kind, w, job, core, at, ticks);
+    let here = w - p.at;
+    if ticks > here {
+        let rest = ticks - here;
+        slices[p.count] = slice_of(kind, w, job, p.core, p.at, here);
+        slices[p.count + 1] = slice_of(kind, w, job, p.core + 1, 0, rest);
         return Spot {
-            count: count + 1,
-            core,
-            at: at + ticks,
+            count: p.count + 2,
+            core: p.core + 1,
+            at: rest,
         };
     }
-    slices[count] = slice_of(kind, w, job, core, at, here);
+    slices[p.count] = slice_of(kind, w, job, p.core, p.at, ticks);
     if ticks == here {
         return Spot {
-            count: count + 1,
-            core: core + 1,
+            count: p.count + 1,
+            core: p.core + 1,
             at: 0,
         };
     }
-    let rest = ticks - here;
-    slices[count + 1] = slice_of(kind, w, job, core + 1, 0, rest);
     Spot {
-        count: count + 2,
-        core: core + 1,
-        at: rest,
+        count: p.count + 1,
+        core: p.core,
+        at: p.at + ticks,
     }
 }
 
@@ -125,8 +126,8 @@ fn put_job(
     requires { (job < jobs_most) × (mine + other ≤ w) × Asks w slices.old p (passed class kind w (filling_of w slices.old p) job (share_on kind mine other ∷ [])) }
     ensures { Stands w (passed class kind w (filling_of w slices.old p) job (share_on kind mine other ∷ [])) slices.new result }
 {
-    let ticks = mine as u32;
-    if is_in(class, w, ticks, other as u32) {
+    let ticks = u32::from(mine);
+    if is_in(class, w, ticks, u32::from(other)) {
         return put_run(kind, w, job, ticks, p, slices);
     }
     p
@@ -139,19 +140,16 @@ fn pack(
     w: u32,
     mine: &[u16],
     other: &[u16],
-    n: usize,
     start: Spot,
     slices: &mut [u64],
 ) -> Spot
-    requires n_in_bounds { (n ≤ length mine.now) × (n ≤ length other.now) × Sized w (shares_on kind n mine.now other.now) }
-    requires asks { Asks w slices.old start (passed class kind w (filling_of w slices.old start) 0 (shares_on kind n mine.now other.now)) }
-    ensures { Stands w (passed class kind w (filling_of w slices.old start) 0 (shares_on kind n mine.now other.now)) slices.new result }
+    requires sized { Sized kind w mine.now other.now }
+    requires asks { Asks w slices.old start (passed class kind w (filling_of w slices.old start) 0 (shares_on kind mine.now other.now)) }
+    ensures { Stands w (passed class kind w (filling_of w slices.old start) 0 (shares_on kind mine.now other.now)) slices.new result }
 {
     let mut p = start;
-    let mut i: usize = 0;
-    while i < n {
-        p = put_job(class, kind, w, i, mine[i], other[i], p, slices);
-        i += 1;
+    for (job, (here, there)) in mine.iter().zip(other).enumerate() {
+        p = put_job(class, kind, w, job, *here, *there, p, slices);
     }
     p
 }
@@ -162,31 +160,30 @@ fn pack_kind(
     w: u32,
     mine: &[u16],
     other: &[u16],
-    n: usize,
     count: usize,
     slices: &mut [u64],
 ) -> usize
-    requires n_in_bounds { (n ≤ length mine.now) × (n ≤ length other.now) × Sized w (shares_on kind n mine.now other.now) }
-    requires asks { Asks w slices.old (begun count) (filled kind w (filling_of w slices.old (begun count)) (pieces_of kind w (shares_on kind n mine.now other.now))) }
-    ensures { Rowed (filled kind w (filling_of w slices.old (begun count)) (pieces_of kind w (shares_on kind n mine.now other.now))) slices.new result }
+    requires sized { Sized kind w mine.now other.now }
+    requires asks { Asks w slices.old (begun count) (filled kind w (filling_of w slices.old (begun count)) (pieces_of kind w (shares_on kind mine.now other.now))) }
+    ensures { Rowed (filled kind w (filling_of w slices.old (begun count)) (pieces_of kind w (shares_on kind mine.now other.now))) slices.new result }
 {
     let start = Spot {
         count,
         core: 0,
         at: 0,
     };
-    let evens = pack(Class::Even, kind, w, mine, other, n, start, slices);
-    let movers = pack(Class::Other, kind, w, mine, other, n, evens, slices);
-    let all = pack(Class::Alone, kind, w, mine, other, n, movers, slices);
+    let evens = pack(Class::Even, kind, w, mine, other, start, slices);
+    let movers = pack(Class::Other, kind, w, mine, other, evens, slices);
+    let all = pack(Class::Alone, kind, w, mine, other, movers, slices);
     all.count
 }
 
 // The whole table: all slices of the first kind, then those of the second.
-pub(crate) fn table(w: u32, first: &[u16], second: &[u16], n: usize, slices: &mut [u64]) -> usize
-    requires table_asks { TableAsks w (shares_in n first.now second.now) }
-    requires n_in_bounds { (n ≤ length first.now) × (n ≤ length second.now) × (slices_most ≤ length slices.old) }
-    ensures { Tabled w (shares_in n first.now second.now) slices.old slices.new result }
+pub(crate) fn table(w: u32, first: &[u16], second: &[u16], slices: &mut [u64]) -> usize
+    requires table_asks { TableAsks w (shares_in (length first.now) first.now second.now) }
+    requires lengths { (length second.now ≡ length first.now) × (slices_most ≤ length slices.old) }
+    ensures { Tabled w (shares_in (length first.now) first.now second.now) slices.old slices.new result }
 {
-    let count = pack_kind(Kind::First, w, first, second, n, 0, slices);
-    pack_kind(Kind::Second, w, second, first, n, count, slices)
+    let count = pack_kind(Kind::First, w, first, second, 0, slices);
+    pack_kind(Kind::Second, w, second, first, count, slices)
 }

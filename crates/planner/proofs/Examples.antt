@@ -21,7 +21,7 @@ use Rattle.legal.specs.Legal.{on_board, legal_of}
 use Rattle.split.specs.Home.{at_home, keep_of, give_of}
 use Rattle.split.specs.Shares.{settled, by_over}
 use Rattle.split.specs.Steps.{better, next_from, moved_of, step_of, steps_of}
-use Rattle.slices.specs.Moves.{later_if, latest, moves}
+use Rattle.slices.specs.Moves.{moves}
 use Rattle.slices.specs.Table.{chosen, pieces_of, cut_of, packed, table_of}
 use Rattle.slices.specs.declared.Moves.{Moves}
 use Rattle.columns.specs.Plan.{plan_of, shares_given, slices_given}
@@ -53,7 +53,6 @@ four = record { window = 10; first = 2; second = 2 }
 pub eight-moves : moves_in (roomy_plan four 4 (both 6 16 ∷ both 6 16 ∷ both 6 16 ∷ OnlyFirst (record { 0 = 8 }) ∷ []))
     ≡ moves 2 0 ∷ moves 2 1 ∷ moves 2 1 ∷ moves 0 0 ∷ []
 unfolding lowest legal_of on_board at_home keep_of give_of better next_from moved_of step_of steps_of settled by_over chosen pieces_of cut_of packed table_of room_of
-    later_if latest
 eight-moves = refl
 
 abbrev restless : List Job
@@ -63,5 +62,4 @@ pub most-moves : (shares_given (roomy_plan four 4 restless) ≡ share 6 4 ∷ sh
     × (moves_in (roomy_plan four 4 restless) ≡ moves 2 0 ∷ moves 2 1 ∷ moves 2 1 ∷ moves 2 0 ∷ [])
     × (sum_of (λ (m : Moves). m.outer + m.inner) (moves_in (roomy_plan four 4 restless)) + 2 ≡ 3 * (four.first + four.second))
 unfolding lowest legal_of on_board at_home keep_of give_of better next_from moved_of step_of steps_of settled by_over chosen pieces_of cut_of packed table_of room_of
-    later_if latest
 most-moves = (refl, refl, refl)

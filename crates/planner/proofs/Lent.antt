@@ -1,72 +1,44 @@
--- The promise of the planning call over lent tables, from what it knows of its callees. The answer for `plan` cites `lent` alone.
---     read       the column of a kind that `costs_in` makes of the first jobs of a slice
---     plan-read  the plan of what was read is the plan of the slice: all of it was read, or it has too many jobs to be looked at
---     lent       the promise, of the plan by value of the costs that were read, whose rows were written to both tables
+-- The promise of the planning call over lent tables, from what it knows of its callees. The answers for `plan` cite the last three alone.
+--     counts-room, plan-room, room-alike   a plan is refused for room exactly where its shares are, and alike whatever is made of them
+--     fit-rows       counts that fit tables have rows for themselves there
+--     lent-refused   the promise of a set that gets no shares
+--     lent-short     of tables that have too few rows for a plan
+--     lent-planned   of a plan, whose rows were written to both tables
 -- Assumes nothing.
 use mathlib.Core.Path.{◌≡◌, refl, sym, ap, ◌∙◌}
 use mathlib.Core.Bool.{Bool, true, false, false≢true, cond, ◌||◌}
 use mathlib.Core.List.{List, ◌++◌, map}
-use Prim.Native.Nat.{ℕ, ◌-◌, min}
-use native.Mathlib.Omega.{arith}
+use Prim.Native.Nat.{ℕ, ◌≤◌}
+use borrow.Author.Tests.{ltb-false}
 use lib.Dec.{ltb}
-use lib.ListN.{length, take, drop, replicate, length-map}
-use lib.Seq.{take-append_seam, take-length}
+use lib.ListN.{length, take, drop, length-map}
+use lib.Seq.{take-append_seam, take-length, length-take-le}
+use Rattle.std.specs.Prelude.{Result, Ok, Err, IsErrAnd}
 use Rattle.rows.specs.Lists.{front}
 use Rattle.rows.proofs.Never.{never}
-use Rattle.model.specs.Columns.{cost_on, jobs_in, shares_in as shares_from}
-use Rattle.model.specs.Limits.{jobs_most}
-use Rattle.model.specs.Packed.{slices_in as slices_from}
-use Rattle.model.specs.Refusal.{Answer, given, refused, and_then, room_refusal}
+use Rattle.model.specs.Columns.{shares_in}
+use Rattle.model.specs.Packed.{slices_in}
+use Rattle.model.specs.Refusal.{Answer, given, refused, says, says_refusal, and_then, room_refusal}
 use Rattle.model.specs.ShareRow.{row_of, ticks_of_row}
 use Rattle.model.specs.Split.{Ticks}
-use Rattle.model.specs.declared.Kind.{Kind}
-use Rattle.model.specs.declared.Kind.TheVariants.{First, Second}
 use Rattle.model.specs.declared.Board.{Board}
 use Rattle.model.specs.declared.Job.{Job}
+use Rattle.model.specs.declared.Refusal.{Refusal}
+use Rattle.model.specs.declared.Refusal.TheVariants.{TooShort}
 use Rattle.model.specs.declared.Share.{Share}
 use Rattle.model.specs.declared.Slice.{Slice}
-use Rattle.model.proofs.Columns.{costs-back}
 use Rattle.model.proofs.ShareRow.{rows_back}
 use Rattle.split.specs.Shares.{shares_of}
 use Rattle.split.proofs.Demands.{room-only, exactly}
-use Rattle.split.proofs.Seen.{shares-read}
 use Rattle.slices.specs.Table.{table_of}
-use Rattle.columns.specs.Plan.{Plan, Counts, plan_from, fitted, plan_of, shares_given, slices_given, counts_in, says_planned}
-use Rattle.columns.specs.declared.Planned.{Planned}
-use Rattle.columns.specs.declared.Planned.TheVariants.{Plan as Counted, Refused}
+use Rattle.columns.specs.Plan.{Plan, plan_from, fitted, plan_of, shares_given, slices_given, counts_in}
+use Rattle.columns.specs.declared.Counts.{Counts}
+use Rattle.columns.proofs.PlanLaws.{counts-are}
 use Rattle.planner.specs.Promise.{Unchanged, Served, Promised}
-use Rattle.planner.specs.ByValue.{Filled}
+use Rattle.planner.specs.InColumns.{whole_plan, fit_of, Filled}
 use Rattle.planner.specs.declared.Tables.{Tables}
 use Rattle.planner.proofs.PlanKept.{plan-kept}
-
-abbrev pub read : Kind → List Job → ℕ → List ℕ
-read kind js few = map (cost_on kind) (take few js) ++ replicate (jobs_most - few) 0
-
--- ---- what was read: all jobs of a set, or some of more than a set may have, which are not looked at
-plan-read : (board : Board) (js : List Job) (m k few : ℕ) → few ≡ min (length js) jobs_most
-    → plan_of board (length js) (jobs_in (length js) (read First js few) (read Second js few)) m k ≡ plan_of board (length js) js m k
-plan-read board js m k few e =
-    ap (λ (x : Answer (List Ticks)). and_then x (λ (ss : List Ticks). fitted m k (record { shares = ss; slices = table_of board.window ss })))
-    (shares-read board (length js) _ js
-    (λ fits. let all : few ≡ length js = omega arith in rw (all, take-length js) (costs-back js fits)))
-
--- ---- the demands
-module _ (board : Board) (js : List Job) (ss ss' : List Share) (ls ls' : List Slice) where
-  -- A refusal leaves both tables as they were, and a plan keeps demand 2.
-  abbrev Stands : Planned → Type 0
-  Stands r = Unchanged r ss ss' ls ls' × Served board js r ss' ls'
-
-  stands : (r : Planned) (x : Answer Plan) → plan_of board (length js) js (length ss) (length ls) ≡ x → says_planned r ≡ counts_in x
-      → ss' ≡ front (map row_of (shares_given x)) ss → ls' ≡ front (slices_given x) ls → Stands r
-  stands (Counted jobs slices) (given p) is says shares-are slices-are =
-      let counts : ◌≡◌ {A = Counts} (record { jobs = jobs; slices = slices }) (record { jobs = length p.shares; slices = length p.slices }) = cc in
-      let size : jobs ≡ length (map row_of p.shares) = ap (λ (c : Counts). c.jobs) counts ∙ sym (length-map p.shares row_of) in
-      let a : map ticks_of_row (take jobs ss') ≡ p.shares = rw (shares-are, size, take-append_seam (map row_of p.shares) _) (rows_back p.shares) in
-      let b : take slices ls' ≡ p.slices = rw (slices-are, ap (λ (c : Counts). c.slices) counts) (take-append_seam p.slices _) in
-      (tt, rw (a, b) (plan-kept board (length js) js (length ss) (length ls) is))
-  stands (Counted jobs slices) (refused number place) is says shares-are slices-are = never (cc)
-  stands (Refused r) (given p) is says shares-are slices-are = never (cc)
-  stands (Refused r) (refused number place) is says shares-are slices-are = ((shares-are, slices-are), tt)
+use Rattle.planner.proofs.PlanTables.{plan-whole, plan_in, jobs-are, slices-are}
 
 -- A plan is refused for room exactly where its shares are.
 pub counts-room : (x : Answer Plan) → room_refusal (counts_in x) ≡ room_refusal x
@@ -89,54 +61,108 @@ pub room-alike : (x : Answer (List Ticks)) (f g : List Ticks → Answer Plan) �
 room-alike (given ss) f g e = absurd (false≢true e)
 room-alike (refused number place) f g e = refl
 
-pub lent : (board : Board) (js : List Job) (ss ss' : List Share) (ls ls' : List Slice) (few : ℕ) (first second : List ℕ) (t : Tables)
-    → few ≡ min (length js) jobs_most → first ≡ read First js few → second ≡ read Second js few
-    → Filled board (length js) (jobs_in (length js) first second) (length ss) (length ls) t
-    → ss' ≡ map row_of (shares_from t.shared t.first t.second) ++ drop t.shared ss → ls' ≡ slices_from t.sliced t.slices ++ drop t.sliced ls
-    → Promised board js ss ls t.planned ss' ls'
-lent board js ss ss' ls ls' few first second t few-is first-is second_is filled shares-are slices-are =
-    record {
-      answer = answer;
-      shares = shares;
-      slices = slices;
-      demand1 = both.0;
-      demand2 = both.1;
-      demand3 =
-          record {
-            only = rw for-room (room-only board n js);
-            exactly = rw for-room (exactly board n js);
-          };
-    }
+-- Counts that fit tables have rows for themselves there.
+fit-rows : (c : Counts) (m k : ℕ) → fit_of c m k ≡ Ok tt → (c.jobs ≤ m) × (c.slices ≤ k)
+fit-rows c m k e = go (ltb m c.jobs) (ltb k c.slices) refl refl e
   where
-    n : ℕ
-    n = length js
+    go : (s t : Bool) → ltb m c.jobs ≡ s → ltb k c.slices ≡ t → cond {A = Result (Unit {0}) Refusal} (s || t) (Err TooShort) (Ok tt) ≡ Ok tt → (c.jobs ≤ m) × (c.slices ≤ k)
+    go false false a b e = (ltb-false _ _ a, ltb-false _ _ b)
+    go true t a b e = never (cc)
+    go false true a b e = never (cc)
 
-    m : ℕ
-    m = length ss
+module _ (board : Board) (js : List Job) (ss : List Share) (ls : List Slice) where
+  abbrev n : ℕ
+  n = length js
 
-    k : ℕ
-    k = length ls
+  abbrev plan : Answer Plan
+  plan = plan_of board n js (length ss) (length ls)
 
-    same : plan_of board n (jobs_in n first second) m k ≡ plan_of board n js m k
-    same = rw (first-is, second_is) (plan-read board js m k few few-is)
+  -- ---- the demands
+  module _ (ss' : List Share) (ls' : List Slice) where
+    -- A refusal leaves both tables as they were, and a plan keeps demand 2.
+    abbrev Stands : Result Counts Refusal → Type 0
+    Stands r = Unchanged r ss ss' ls ls' × Served board js r ss' ls'
 
-    answer : says_planned t.planned ≡ counts_in (plan_of board n js m k)
-    answer = filled.says ∙ ap counts_in same
+    stands : (r : Result Counts Refusal) (x : Answer Plan) → plan ≡ x → says r ≡ counts_in x → ss' ≡ front (map row_of (shares_given x)) ss
+        → ls' ≡ front (slices_given x) ls → Stands r
+    stands (Ok c) (given p) is told shares-are slices-are =
+        let counts = counts-are c (given p) told in
+        let size : c.jobs ≡ length (map row_of p.shares) = counts.0 ∙ sym (length-map p.shares row_of) in
+        let a : map ticks_of_row (take c.jobs ss') ≡ p.shares = rw (shares-are, size, take-append_seam (map row_of p.shares) _) (rows_back p.shares) in
+        let b : take c.slices ls' ≡ p.slices = rw (slices-are, counts.1) (take-append_seam p.slices _) in
+        (tt, rw (a, b) (plan-kept board n js (length ss) (length ls) is))
+    stands (Ok c) (refused number place) is told shares-are slices-are = never (cc)
+    stands (Err e) (given p) is told shares-are slices-are = never (cc)
+    stands (Err e) (refused number place) is told shares-are slices-are = ((shares-are, slices-are), tt)
 
-    for-room : room_refusal (says_planned t.planned) ≡ room_refusal (shares_of board n js)
-    for-room = rw answer (counts-room (plan_of board n js m k) ∙ plan-room board n js m k)
+    promised : (r : Result Counts Refusal) → says r ≡ counts_in plan → ss' ≡ front (map row_of (shares_given plan)) ss → ls' ≡ front (slices_given plan) ls
+        → Promised board js ss ls r ss' ls'
+    promised r answer shares slices =
+        record {
+          answer = answer;
+          shares = shares;
+          slices = slices;
+          demand1 = both.0;
+          demand2 = both.1;
+          demand3 =
+              record {
+                only = rw for-room (room-only board n js);
+                exactly = rw for-room (exactly board n js);
+              };
+        }
+      where
+        for-room : room_refusal (says r) ≡ room_refusal (shares_of board n js)
+        for-room = rw answer (counts-room plan ∙ plan-room board n js (length ss) (length ls))
 
-    shares : ss' ≡ front (map row_of (shares_given (plan_of board n js m k))) ss
-    shares =
-        shares-are ∙
-        rw (filled.shares, filled.shared, ← length-map (shares_given (plan_of board n (jobs_in n first second) m k)) row_of)
-        (ap (λ (x : Answer Plan). front (map row_of (shares_given x)) ss) same)
+        both : Stands r
+        both = stands r plan refl answer shares slices
 
-    slices : ls' ≡ front (slices_given (plan_of board n js m k)) ls
-    slices =
-        slices-are ∙
-        rw (filled.slices, filled.sliced)
-        (ap (λ (x : Answer Plan). front (slices_given x) ls) same)
+  -- ---- a refusal, of the set or of the tables
+  refuses : (e : Refusal) → plan ≡ says_refusal e → Promised board js ss ls (Err e) ss ls
+  refuses e is =
+      promised ss ls (Err e) (sym (ap counts_in is)) (sym (ap (λ (x : Answer Plan). front (map row_of (shares_given x)) ss) is))
+      (sym (ap (λ (x : Answer Plan). front (slices_given x) ls) is))
 
-    both : Stands board js ss ss' ls ls' t.planned
-    both = stands board js ss ss' ls ls' t.planned (plan_of board n js m k) refl answer shares slices
+  -- The plan for any tables goes on with these.
+  went : {x : Answer Plan} → x ≡ whole_plan board n js → plan ≡ and_then x (fitted (length ss) (length ls))
+  went e = rw e (plan-whole board n js (length ss) (length ls))
+
+  module _ (t : Tables) where
+    -- As many jobs are planned as there are.
+    abbrev All : Result Counts Refusal → Type 0
+    All r = Filled board n (take n js) r t
+
+    pub lent-refused : (r : Result Counts Refusal) (e : Refusal) → IsErrAnd r (λ (x : Refusal). x ≡ e) → All (Err e) → Promised board js ss ls r ss ls
+    lent-refused (Err r) e is filled = rw is (refuses e (went (rw (take-length js) at filled.says)))
+    lent-refused (Ok c) e is filled = absurd is
+
+    module _ (c : Counts) (filled : All (Ok c)) where
+      abbrev p : Plan
+      p = plan_in c t
+
+      fits : plan ≡ cond (ltb (length ss) c.jobs || ltb (length ls) c.slices) (refused 7 0) (given p)
+      fits = rw (jobs-are c t, slices-are c t) at (went (rw (take-length js) at filled.says))
+
+      pub lent-short : (r : Result Counts Refusal) (e : Refusal) → IsErrAnd r (λ (x : Refusal). x ≡ e) → Err e ≡ fit_of c (length ss) (length ls)
+          → Promised board js ss ls r ss ls
+      lent-short (Err r) e is short = rw is (refuses e (fits ∙ go (ltb (length ss) c.jobs || ltb (length ls) c.slices) short))
+        where
+          go : (b : Bool) → Err e ≡ cond {A = Result (Unit {0}) Refusal} b (Err TooShort) (Ok tt) → cond {A = Answer Plan} b (refused 7 0) (given p) ≡ says_refusal e
+          go true short = let is : TooShort ≡ e = cc in ap says_refusal is
+          go false short = never (cc)
+      lent-short (Ok d) e is short = absurd is
+
+      -- The first rows of both tables were made those of the plan.
+      pub lent-planned : (first : List Share) (second : List Slice) → Ok tt ≡ fit_of c (length ss) (length ls)
+          → first ≡ map row_of (shares_in (length (take c.jobs ss)) t.first t.second) → second ≡ slices_in (length (take c.slices ls)) t.slices
+          → Promised board js ss ls (Ok c) (first ++ drop c.jobs ss) (second ++ drop c.slices ls)
+      lent-planned first second enough shares slices =
+          let rows = fit-rows c (length ss) (length ls) (sym enough) in
+          let is : plan ≡ given p = fits ∙ go (ltb (length ss) c.jobs || ltb (length ls) c.slices) enough in
+          promised (first ++ drop c.jobs ss) (second ++ drop c.slices ls) (Ok c) (rw (← jobs-are c t, ← slices-are c t) (sym (ap counts_in is)))
+          (rw (shares, length-take-le c.jobs ss rows.0) (rw (length-map p.shares row_of, jobs-are c t) at (sym (ap (λ (x : Answer Plan). front (map row_of (shares_given x)) ss) is))))
+          (rw (slices, length-take-le c.slices ls rows.1) (rw (slices-are c t) at (sym (ap (λ (x : Answer Plan). front (slices_given x) ls) is))))
+        where
+          go : (b : Bool) → Ok tt ≡ cond {A = Result (Unit {0}) Refusal} b (Err TooShort) (Ok tt) → cond {A = Answer Plan} b (refused 7 0) (given p) ≡ given p
+          go true enough = never (cc)
+          go false enough = refl

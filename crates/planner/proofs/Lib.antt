@@ -1,5 +1,5 @@
--- Open Demands first. The proof that a function meets its contract is in the folder of its name; these are what such proofs cite, and the
--- theorems over the promises.
+-- Open Demands first. What the check does not find of the proof that a function meets its contract is in the folder of its name;
+-- these are what such proofs cite, and the theorems over the promises.
 --
 -- The three demands of every call of `plan`, in their own words, from its promise and nothing else.
 pub mod Demands
@@ -16,9 +16,9 @@ pub mod Examples
 --
 -- A plan keeps demand 2.
 pub mod PlanKept
--- The promise of `plan_tables`, from that of `columns::plan_columns`.
+-- The promise of `Tables::fill`, from that of `columns::plan_columns`.
 mod PlanTables
--- The promise of `plan`, from that of `plan_tables` and of the functions over rows of records.
+-- The promise of `plan`, from that of `Tables::fill` and of the functions over rows of records.
 pub mod Lent
 -- The promise of `moves`; and how often each job of an accepted set moves, theorems that no promise needs.
 pub mod PlanMoves

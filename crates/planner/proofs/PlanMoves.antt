@@ -1,8 +1,9 @@
 -- The moves of a planned set: the promise of `moves`, and what follows from it of every accepted set: how often each job moves, exactly, and how
 -- often all of them together.
---   moves-promised    the promise of `moves`
+--   moves-refused, moves-promised   the promise of `moves`
 --   outers, inners    the outer moves of all jobs together, and the inner ones
 --   planned-given     a set that the call says is planned has a plan
+--   planned-answered  of a set that has a plan the call gives moves, and no refusal
 --   mover-exactly     a mover has two outer moves, and its slices less 2 inner ones
 --   other-exactly     any other job has one slice and no move, or two slices and two inner moves
 --   moves-as-slices   a job with two slices or more moves as often as it has slices
@@ -20,6 +21,7 @@ use native.Mathlib.Omega.{arith}
 use borrow.Author.Tests.{ltb-true, ltb-false, le-ltb}
 use lib.Dec.{ltb}
 use lib.ListN.{length, get_or, take, replicate, get_or-append}
+use Rattle.std.specs.Prelude.{Result, Ok, Err}
 use Rattle.rows.specs.Lists.{All, sum_of}
 use Rattle.rows.specs.Numbered.{sum_below}
 use Rattle.rows.specs.Upto.{upto}
@@ -29,13 +31,13 @@ use Rattle.rows.proofs.Numbered.{below-upto}
 use Rattle.rows.proofs.Upto.{upto-length, upto-at}
 use Rattle.model.specs.Limits.{jobs_most, slices_most}
 use Rattle.model.specs.Movers.{is_mover}
-use Rattle.model.specs.Packed.{slice_in}
+use Rattle.model.specs.Packed.{slice_in, slices_in}
 use Rattle.model.specs.Refusal.{Answer, given, refused, and_then}
 use Rattle.model.specs.Split.{Ticks, share, AllDone}
 use Rattle.model.specs.declared.Board.{Board}
 use Rattle.model.specs.declared.Job.{Job}
 use Rattle.model.specs.declared.Job.TheVariants.{Both, OnlyFirst, OnlySecond}
-use Rattle.model.specs.declared.Slice.{Slice}
+use Rattle.model.specs.declared.Refusal.{Refusal}
 use Rattle.model.proofs.Splits.{all-done-length}
 use Rattle.legal.specs.Lawful.{LegalJob}
 use Rattle.split.specs.Shares.{shares_of}
@@ -46,37 +48,41 @@ use Rattle.slices.specs.Moves.{moves_of}
 use Rattle.slices.specs.Table.{table_of}
 use Rattle.slices.specs.declared.Moves.{Moves}
 use Rattle.slices.proofs.JobMoves.{mover-moves, other-moves, many-moves, table-moves, table-moves-few}
-use Rattle.columns.specs.Plan.{Plan, plan_from, fitted, shares_given, slices_given, Counts, counts_in, says_planned}
+use Rattle.columns.specs.Plan.{Plan, plan_from, fitted, counts_in}
+use Rattle.columns.specs.declared.Counts.{Counts}
 use Rattle.columns.proofs.ColumnFronts.{slices-take}
 use Rattle.columns.proofs.PlanLaws.{shares-lawful, shares-accepted, accepted-few, shares-fit}
 use Rattle.planner.specs.PlanMoves.{moves_in, no_moves, roomy_plan, MovesPromised}
-use Rattle.planner.specs.ByValue.{Filled}
+use Rattle.planner.specs.InColumns.{whole_plan, Filled}
 use Rattle.planner.specs.declared.PlannedMoves.{PlannedMoves}
 use Rattle.planner.specs.declared.Tables.{Tables}
 use Rattle.planner.proofs.PlanKept.{plan-shares}
+use Rattle.planner.proofs.PlanTables.{plan-whole, jobs-are, slices-are}
 
--- ---- the code's tables
-moves-in : (x : Answer Plan) → moves_in x ≡ upto (length (shares_given x)) (moves_of (slices_given x))
-moves-in (given p) = refl
-moves-in (refused number place) = refl
+-- ---- the code's columns
+module _ (board : Board) (n : ℕ) (js : List Job) where
+  roomy : {x : Answer Plan} → x ≡ whole_plan board n js → roomy_plan board n js ≡ and_then x (fitted jobs_most slices_most)
+  roomy e = rw e (plan-whole board n js jobs_most slices_most)
 
--- The tables t are of the jobs ks that columns say, whose shares are those of the jobs js.
-pub moves-promised : (board : Board) (n : ℕ) (ks js : List Job) (t : Tables) (rows : List Slice) (moves : List Moves)
-    → shares_of board n ks ≡ shares_of board n js → Filled board n ks jobs_most slices_most t
-    → t.sliced ≤ length t.slices → rows ≡ map slice_in t.slices
-    → moves ≡ upto t.shared (moves_of (take t.sliced rows)) ++ replicate (jobs_most - t.shared) no_moves
-    → MovesPromised board n js (record { planned = t.planned; moves = moves })
-moves-promised board n ks js t rows moves same f there rows_are e =
-    let x : Answer Plan = roomy_plan board n ks in
-    let plan : x ≡ roomy_plan board n js =
-    ap (λ (y : Answer (List Ticks)). and_then y (λ (ss : List Ticks). fitted jobs_most slices_most (plan_from board ss))) same in
-    let slices : take t.sliced rows ≡ slices_given x = rw (rows_are, ← slices-take t.sliced t.slices there) f.slices in
-    let all : upto t.shared (moves_of (take t.sliced rows)) ≡ moves_in x = rw (slices, f.shared) (sym (moves-in x)) in
-    let count : t.shared ≡ length (moves_in x) = f.shared ∙ sym (ap length (moves-in x) ∙ upto-length (length (shares_given x)) (moves_of (slices_given x))) in
-    record {
-      says = f.says ∙ ap counts_in plan;
-      moves = e ∙ rw (all, count) (ap (λ (y : Answer Plan). moves_in y ++ replicate (jobs_most - length (moves_in y)) no_moves) plan);
-    }
+  pub moves-refused : (e : Refusal) (t : Tables) → Filled board n js (Err e) t → MovesPromised board n js (Err e)
+  moves-refused e t filled = record { says = sym (ap counts_in (roomy filled.says)); moves = tt }
+
+  -- The moves are counted in all rows of the column of slices, of which the plan's are the first.
+  pub moves-promised : (c : Counts) (t : Tables) (moves : List Moves) → Filled board n js (Ok c) t → c.slices ≤ length t.slices
+      → moves ≡ upto c.jobs (moves_of (take c.slices (map slice_in t.slices))) ++ replicate (jobs_most - c.jobs) no_moves
+      → MovesPromised board n js (Ok (record { counts = c; moves = moves }))
+  moves-promised c t moves filled there e =
+      let fits = rw (jobs-are c t, slices-are c t, le-ltb jobs_most c.jobs filled.few.shares, le-ltb slices_most c.slices filled.few.slices) at (roomy filled.says) in
+      record {
+        says = rw (fits, jobs-are c t, slices-are c t) refl;
+        moves = rw (fits, jobs-are c t, upto-length c.jobs (moves_of (slices_in c.slices t.slices)), slices-take c.slices t.slices there) e;
+      }
+
+-- So what is said below of an answer that gives moves is said of every set that has a plan.
+pub planned-answered : (board : Board) (n : ℕ) (js : List Job) (r : Result PlannedMoves Refusal) (p : Plan) → MovesPromised board n js r
+    → roomy_plan board n js ≡ given p → (q : PlannedMoves) × (r ≡ Ok q)
+planned-answered board n js (Ok q) p m is = (q, refl)
+planned-answered board n js (Err refusal) p m is = let no = rw is at m.says in never (cc)
 
 -- ---- how often the jobs of an accepted set move, by what `moves` promises
 abbrev pub outers : List Moves → ℕ
@@ -112,16 +118,16 @@ done-some w (OnlyFirst c1 ∷ js) (s ∷ ss) l d = (omega arith, done-some w js 
 done-some w (OnlySecond c2 ∷ js) (s ∷ ss) l d = (omega arith, done-some w js ss l.1 d.1)
 
 -- A set that the call says is planned has a plan.
-pub planned-given : {board : Board} {n : ℕ} {js : List Job} {r : PlannedMoves} {counts : Counts} → MovesPromised board n js r
-    → says_planned r.planned ≡ given counts → (p : Plan) × (roomy_plan board n js ≡ given p)
-planned-given {board} {n} {js} {r} {counts} promised planned = go (roomy_plan board n js) (sym promised.says ∙ planned)
+pub planned-given : {board : Board} {n : ℕ} {js : List Job} {r : PlannedMoves} → MovesPromised board n js (Ok r)
+    → (p : Plan) × (roomy_plan board n js ≡ given p)
+planned-given {board} {n} {js} {r} promised = go (roomy_plan board n js) promised.says
   where
-    go : (x : Answer Plan) → counts_in x ≡ given counts → (p : Plan) × (x ≡ given p)
+    go : (x : Answer Plan) → given r.counts ≡ counts_in x → (p : Plan) × (x ≡ given p)
     go (given p) e = (p, refl)
     go (refused number place) e = never (cc)
 
 module _ {board : Board} {n : ℕ} {js : List Job} {r : PlannedMoves} {p : Plan}
-    (promised : MovesPromised board n js r) (is : roomy_plan board n js ≡ given p) where
+    (promised : MovesPromised board n js (Ok r)) (is : roomy_plan board n js ≡ given p) where
   -- The moves of job j, as they are answered, and its slices.
   abbrev moves_at : ℕ → Moves
   moves_at j = get_or r.moves j no_moves

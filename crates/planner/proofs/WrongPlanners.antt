@@ -20,6 +20,7 @@ use borrow.Author.Tests.{ltb-true, ltb-false}
 use lib.Dec.{ltb}
 use lib.ListN.{length, take, get_or, replicate}
 use lib.Seq.{get_or-take, length-take-le}
+use Rattle.std.specs.Prelude.{Result, Ok, Err}
 use Rattle.rows.specs.Lists.{All}
 use Rattle.rows.proofs.Never.{never}
 use Rattle.model.specs.Board.{same_kind, room_of}
@@ -38,18 +39,17 @@ use Rattle.legal.specs.Lawful.{LegalJob, Lawful}
 use Rattle.split.specs.Home.{stretched_at}
 use Rattle.split.specs.Promise.{stretched_on, SmallerSplit}
 use Rattle.columns.specs.Plan.{plan_of, slices_given}
-use Rattle.columns.specs.declared.Planned.{Planned}
-use Rattle.columns.specs.declared.Planned.TheVariants.{Plan as Counted, Refused}
+use Rattle.columns.specs.declared.Counts.{Counts}
 use Rattle.planner.specs.Promise.{Promised}
 use Rattle.planner.proofs.Demands.{rows-there, rows-by-rules, job-whole, job-served, slice_inside, split-planned}
 
-pub record Result : Type 0 where
-  pub answer : Planned
+pub record Outcome : Type 0 where
+  pub answer : Result Counts Refusal
   pub shares : List Share
   pub slices : List Slice
 
 abbrev pub Planner : Type 0
-Planner = Board → List Job → List Share → List Slice → Result
+Planner = Board → List Job → List Share → List Slice → Outcome
 
 abbrev pub Meets : Planner → Type 0
 Meets f =
@@ -73,7 +73,7 @@ shares = replicate 2 no_share
 abbrev slices : List Slice
 slices = replicate 4 no_slice
 
-abbrev out : Planner → List Job → Result
+abbrev out : Planner → List Job → Outcome
 out f js = f tiny js shares slices
 
 -- A set that demands 1 and 3 let no planner refuse.
@@ -119,13 +119,13 @@ unfolding stretched_at
 two = small (first ∷ second ∷ []) (share 1 0 ∷ share 0 1 ∷ []) (omega arith) (omega arith) (omega arith) (omega arith) (omega arith)
 
 module _ (f : Planner) (meets : Meets f) {js : List Job} (s : Small js) where
-  planned-is : (jobs : ℕ) × (rows : ℕ) × ((out f js).answer ≡ Counted jobs rows)
+  planned-is : (c : Counts) × ((out f js).answer ≡ Ok c)
   planned-is =
       split-planned (out f js).answer (meets tiny js shares slices) s.law s.split
       (⊎_elim (λ l. omega (arith, s.few)) (λ l. omega (arith, s.few)))
 
-  planned : Promised tiny js shares slices (Counted planned-is.0 planned-is.1) (out f js).shares (out f js).slices
-  planned = rw planned-is.2 at (meets tiny js shares slices)
+  planned : Promised tiny js shares slices (Ok planned-is.0) (out f js).shares (out f js).slices
+  planned = rw planned-is.1 at (meets tiny js shares slices)
 
 -- A job with ticks on a kind has a row there.
 of-kind : (k l : Kind) (t : Bool) (n : ℕ) → 0 < cond (same_kind k l && t) n 0 → l ≡ k
@@ -150,12 +150,12 @@ has-row k j (s ∷ rows) h = go (ltb 0 here) refl (has-row k j rows)
 
 -- ---- One that refuses everything, on the empty set.
 pub refuses-everything : (f : Planner)
-    → ((board : Board) (js : List Job) (ss : List Share) (ls : List Slice) → (r : Refusal) × ((f board js ss ls).answer ≡ Refused r))
+    → ((board : Board) (js : List Job) (ss : List Share) (ls : List Slice) → (r : Refusal) × ((f board js ss ls).answer ≡ Err r))
     → Meets f → ⊥
 refuses-everything f refuses meets =
     let x = refuses tiny [] shares slices in
     let y = planned-is f meets none in
-    let e : Refused x.0 ≡ Counted y.0 y.1 = sym x.1 ∙ y.2 in
+    let e : ◌≡◌ {A = Result Counts Refusal} (Err x.0) (Ok y.0) = sym x.1 ∙ y.1 in
     never (cc)
 
 -- ---- The same plan whatever the set.
@@ -164,7 +164,7 @@ pub one-plan : (f : Planner)
 one-plan f same meets =
     let a = job-whole (planned f meets one-first) 0 (omega arith) in
     let b = job-whole (planned f meets one-second) 0 (omega arith) in
-    let e = ap (λ (x : Result). (get_or x.shares 0 no_share).first.0) (same tiny (first ∷ []) (second ∷ []) shares slices) in
+    let e = ap (λ (x : Outcome). (get_or x.shares 0 no_share).first.0) (same tiny (first ∷ []) (second ∷ []) shares slices) in
     omega arith
 
 -- ---- One that writes no rows, whichever of the two tables it leaves as it was.
@@ -177,10 +177,10 @@ no-shares-written f kept meets =
 
 module _ (f : Planner) (meets : Meets f) {js : List Job} (s : Small js) where
   -- A job with ticks on a kind has one of the rows that are counted.
-  row_of : (k : Kind) (j : ℕ) → 0 < ticks_in k j (take (planned-is f meets s).1 (out f js).slices)
-      → (i : ℕ) × (i < (planned-is f meets s).1) × ((get_or (out f js).slices i no_slice).kind ≡ k)
+  row_of : (k : Kind) (j : ℕ) → 0 < ticks_in k j (take (planned-is f meets s).0.slices (out f js).slices)
+      → (i : ℕ) × (i < (planned-is f meets s).0.slices) × ((get_or (out f js).slices i no_slice).kind ≡ k)
   row_of k j some =
-      let rows : ℕ = (planned-is f meets s).1 in
+      let rows : ℕ = (planned-is f meets s).0.slices in
       let x = has-row k j (take rows (out f js).slices) some in
       let l : x.0 < rows = omega (arith, x.1, length-take-le rows (out f js).slices (rows-there (planned f meets s)).2) in
       (x.0, l, rw (get_or-take rows (out f js).slices x.0 no_slice l) at x.2)
@@ -197,7 +197,7 @@ no-slices-written f kept meets =
 
 -- ---- Every row a copy of the first.
 pub copied-shares : (f : Planner)
-    → ((board : Board) (js : List Job) (ss : List Share) (ls : List Slice) (jobs rows i : ℕ) → (f board js ss ls).answer ≡ Counted jobs rows → i < jobs
+    → ((board : Board) (js : List Job) (ss : List Share) (ls : List Slice) (c : Counts) (i : ℕ) → (f board js ss ls).answer ≡ Ok c → i < c.jobs
     → get_or (f board js ss ls).shares i no_share ≡ get_or (f board js ss ls).shares 0 no_share)
     → Meets f → ⊥
 copied-shares f copies meets =
@@ -205,25 +205,25 @@ copied-shares f copies meets =
     let a = job-whole p 0 (omega arith) in
     let b = job-whole p 1 (omega arith) in
     let e = ap (λ (s : Share). s.first.0)
-    (copies tiny (first ∷ second ∷ []) shares slices _ _ 1 (planned-is f meets two).2 (omega (arith, (rows-there p).0))) in
+    (copies tiny (first ∷ second ∷ []) shares slices _ 1 (planned-is f meets two).1 (omega (arith, (rows-there p).0))) in
     omega arith
 
 pub copied-slices : (f : Planner)
-    → ((board : Board) (js : List Job) (ss : List Share) (ls : List Slice) (jobs rows i : ℕ) → (f board js ss ls).answer ≡ Counted jobs rows → i < rows
+    → ((board : Board) (js : List Job) (ss : List Share) (ls : List Slice) (c : Counts) (i : ℕ) → (f board js ss ls).answer ≡ Ok c → i < c.slices
     → get_or (f board js ss ls).slices i no_slice ≡ get_or (f board js ss ls).slices 0 no_slice)
     → Meets f → ⊥
 copied-slices f copies meets =
     let p = planned f meets two in
     let a = row_of f meets two First 0 (omega (arith, job-whole p 0 (omega arith), job-served p First 0 (omega arith))) in
     let b = row_of f meets two Second 1 (omega (arith, job-whole p 1 (omega arith), job-served p Second 1 (omega arith))) in
-    let e = copies tiny (first ∷ second ∷ []) shares slices _ _ a.0 (planned-is f meets two).2 a.1 in
-    let g = copies tiny (first ∷ second ∷ []) shares slices _ _ b.0 (planned-is f meets two).2 b.1 in
+    let e = copies tiny (first ∷ second ∷ []) shares slices _ a.0 (planned-is f meets two).1 a.1 in
+    let g = copies tiny (first ∷ second ∷ []) shares slices _ b.0 (planned-is f meets two).1 b.1 in
     let same : First ≡ Second = cc in
     never (cc)
 
 -- ---- A count of slices that is not the length of the rules' table.
-pub invented-count : (f : Planner) (board : Board) (js : List Job) (ss : List Share) (ls : List Slice) (jobs rows : ℕ)
-    → (f board js ss ls).answer ≡ Counted jobs rows → (rows ≡ length (slices_given (plan_of board (length js) js (length ss) (length ls))) → ⊥) → Meets f → ⊥
-invented-count f board js ss ls jobs rows is wrong meets =
-    let p : Promised board js ss ls (Counted jobs rows) (f board js ss ls).shares (f board js ss ls).slices = rw is at (meets board js ss ls) in
-    wrong (sym (ap (λ x. length (slices_given x)) (rows-by-rules p) ∙ length-take-le rows (f board js ss ls).slices (rows-there p).2))
+pub invented-count : (f : Planner) (board : Board) (js : List Job) (ss : List Share) (ls : List Slice) (c : Counts)
+    → (f board js ss ls).answer ≡ Ok c → (c.slices ≡ length (slices_given (plan_of board (length js) js (length ss) (length ls))) → ⊥) → Meets f → ⊥
+invented-count f board js ss ls c is wrong meets =
+    let p : Promised board js ss ls (Ok c) (f board js ss ls).shares (f board js ss ls).slices = rw is at (meets board js ss ls) in
+    wrong (sym (ap (λ x. length (slices_given x)) (rows-by-rules p) ∙ length-take-le c.slices (f board js ss ls).slices (rows-there p).2))

@@ -4,4 +4,4 @@ pub mod PlanMoves
 -- The causes of the refusals, which the theorems of proofs/Demands.antt cite.
 pub mod Listed
 -- What private functions ask and promise.
-pub mod ByValue
+pub mod InColumns

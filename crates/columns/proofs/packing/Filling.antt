@@ -1,29 +1,30 @@
 -- A table that is being filled with the slices of pieces. One idea: what is done, with the pieces that are left, fills it as all pieces do,
 -- and more pieces only add rows and move the position on; so every step of the way has the room that the whole has. Assumes nothing.
 --   run                                     a table after one run, from where the code stands
---   run-core, run_row, run-rows             the run has its core and its rows
---   run-one, run-two                        it is one slice, or two
+--   run_core, run_row, run_rows, run_next   the run has its core and its rows
+--   run_short, run_whole, run_cut           it ends before the edge of its core, exactly on it, or behind it on the next
+--   runs                                    these seven, for the check of `put_run`
 --   after                                   a table after one job of a pass
 --   job-in, job-out                         the pass places the job, or not
 --   filled-append                           several pieces, and then several more
 --   asks-part, asks_rest, stands-rest       the first pieces have the room that all have, and the others fill what is left
 --   left, Passing                           what the jobs from i on give, and where the code stands at job i
---   job-few, share-within                   a job of a pass has its number and its ticks within the limits
+--   share-within                            a job of a pass has its ticks within the window
 --   pass-asks, pass_on, pass-ends           a pass goes on from job to job, and ends with the table of all
 use mathlib.Core.Path.{◌≡◌, refl, sym, ◌∙◌}
 use mathlib.Core.Bool.{Bool, true, false, cond, and_comm}
 use mathlib.Core.List.{List, [], ◌∷◌, ◌++◌}
 use Prim.Native.Nat.{ℕ, ◌+◌, ◌-◌, ◌*◌, ◌%◌, ◌≤◌, ◌<◌}
-use native.Mathlib.Nat.{add_comm, le_of_mul-le-mul_right}
+use native.Mathlib.Nat.{add_comm, add-mul, le_of_mul-le-mul_right}
 use native.Mathlib.Omega.{arith}
 use borrow.Author.Tests.{le-leb, lt-leb}
 use lib.Arith.{digits_div, digits_mod}
 use lib.Dec.{leb, ltb}
-use lib.ListN.{length, drop, set}
+use lib.ListN.{length, drop, set, length-set}
 use Rattle.rows.specs.Upto.{upto, at}
 use Rattle.rows.proofs.Upto.{upto-length, upto-at, upto_left, upto-none}
 use Rattle.rows.proofs.Lists.{all-at}
-use Rattle.model.specs.Limits.{cores_most, jobs_most, slices_most}
+use Rattle.model.specs.Limits.{cores_most, slices_most}
 use Rattle.model.specs.Packed.{pack_of}
 use Rattle.model.specs.Split.{Ticks, share, ticks_on}
 use Rattle.model.specs.declared.Kind.{Kind}
@@ -58,30 +59,46 @@ module _ (k : Kind) (w job ticks : ℕ) (column : List ℕ) (p : Spot) where
     unfolding cut_of
     run-cut = rw (digits_div p.core asks.inside, digits_mod p.core asks.inside)
 
-    pub run-core : p.core ≤ cores_most
+    pub run_core : p.core ≤ cores_most
     unfolding placed
-    run-core = le_of_mul-le-mul_right {k = w} (omega (arith, asks.ends)) (omega (arith, asks.inside))
+    run_core = le_of_mul-le-mul_right {k = w} (omega (arith, asks.ends)) (omega (arith, asks.inside))
 
     pub run_row : p.count + 1 ≤ slices_most
     unfolding placed
     run_row = omega (arith, asks.rows, cut-some k w (p.core * w + p.at) piece)
 
-    pub run-rows : w < p.at + ticks → p.count + 2 ≤ slices_most
+    pub run_rows : w < p.at + ticks → p.count + 2 ≤ slices_most
     unfolding placed
-    run-rows over = rw (run-cut, lt-leb _ _ over) at asks.rows
+    run_rows over = rw (run-cut, lt-leb _ _ over) at asks.rows
 
-    -- The place r is behind the run.
-    module _ (r : Spot) (ends : r.core * w + r.at ≡ p.core * w + p.at + ticks) (inside : r.at < w) where
-      pub run-one : (x : ℕ) → p.at + ticks ≤ w → x ≡ pack_of (slice_of k w job p.core p.at ticks) → r.count ≡ p.count + 1
-          → Stands w run (set column p.count x) r
-      unfolding placed written
-      run-one x whole is count = record { is = rw (run-cut, le-leb _ _ whole, ends, is, count); inside = inside }
+    pub run_next : w < p.at + ticks → (x : ℕ) → p.count + 1 < length (set column p.count x)
+    run_next over x = rw length-set (omega (arith, asks.lent, run_rows over))
 
-      pub run-two : (x y : ℕ) → w < p.at + ticks → x ≡ pack_of (slice_of k w job p.core p.at (w - p.at))
-          → y ≡ pack_of (slice_of k w job (p.core + 1) 0 (ticks - (w - p.at))) → r.count ≡ p.count + 2
-          → Stands w run (set (set column p.count x) (p.count + 1) y) r
-      unfolding placed written
-      run-two x y over is is2 count = record { is = rw (run-cut, lt-leb _ _ over, ends, is, is2, count); inside = inside }
+    -- The run ends before the edge of its core, exactly on it, or behind it on the next.
+    pub run_short : (x : ℕ) → p.at + ticks < w → x ≡ pack_of (slice_of k w job p.core p.at ticks)
+        → Stands w run (set column p.count x) (record { count = p.count + 1; core = p.core; at = p.at + ticks })
+    unfolding placed written
+    run_short x short is =
+        let ends : p.core * w + (p.at + ticks) ≡ p.core * w + p.at + ticks = omega arith in
+        record { is = rw (run-cut, le-leb (p.at + ticks) w (omega arith), ends, is) refl; inside = short }
+
+    pub run_whole : (x : ℕ) → p.at + ticks ≡ w → x ≡ pack_of (slice_of k w job p.core p.at ticks)
+        → Stands w run (set column p.count x) (record { count = p.count + 1; core = p.core + 1; at = 0 })
+    unfolding placed written
+    run_whole x whole is =
+        let ends : (p.core + 1) * w + 0 ≡ p.core * w + p.at + ticks = omega (arith, add-mul p.core 1 w) in
+        record { is = rw (run-cut, le-leb (p.at + ticks) w (omega arith), ends, is) refl; inside = omega (arith, asks.inside) }
+
+    pub run_cut : (x y : ℕ) → w < p.at + ticks → ticks ≤ w → x ≡ pack_of (slice_of k w job p.core p.at (w - p.at))
+        → y ≡ pack_of (slice_of k w job (p.core + 1) 0 (ticks - (w - p.at)))
+        → Stands w run (set (set column p.count x) (p.count + 1) y) (record { count = p.count + 2; core = p.core + 1; at = ticks - (w - p.at) })
+    unfolding placed written
+    run_cut x y over few is is2 =
+        let ends : (p.core + 1) * w + (ticks - (w - p.at)) ≡ p.core * w + p.at + ticks = omega (arith, asks.inside, add-mul p.core 1 w) in
+        record { is = rw (run-cut, lt-leb _ _ over, ends, is, is2) refl; inside = omega (arith, asks.inside) }
+
+-- What `put_run` needs of its run.
+pub ruleset runs = (run_core, run_row, run_rows, run_next, run_short, run_whole, run_cut)
 
 -- ---- one job of a pass, by its ticks on the kind and on the other
 class-on : (class : Class) (k : Kind) (w a b : ℕ) → class_of class First w (share a b) ≡ class_of class k w (share_on k a b)
@@ -162,23 +179,21 @@ chosen-cons test k i s ss = go (test s)
     go true = refl
     go false = refl
 
-module _ (class : Class) (k : Kind) (w n : ℕ) (mine other : List ℕ) where
+module _ (class : Class) (k : Kind) (w : ℕ) (mine other : List ℕ) where
   -- The table that the pieces of the jobs from i on give.
   abbrev pub left : Filling → ℕ → Filling
-  left t i = passed class k w t i (drop i (shares_on k n mine other))
+  left t i = passed class k w t i (drop i (shares_on k mine other))
 
   -- The code stands at job i, and what is left leads to the end.
   pub record Passing (end : Filling) (column : List ℕ) (p : Spot) (i : ℕ) : Type 0 where
     pub asks : Asks w column p end
     pub is : left (filling_of w column p) i ≡ end
 
-  module _ (i : ℕ) (below : i < n) where
-    pub job-few : Sized w (shares_on k n mine other) → i < jobs_most
-    job-few sized = omega (arith, sized.few, upto-length n (λ j. share_on k (at mine j) (at other j)))
-
-    pub share-within : Sized w (shares_on k n mine other) → at mine i + at other i ≤ w
+  module _ (i : ℕ) (below : i < length mine) where
+    pub share-within : Sized k w mine other → at mine i + at other i ≤ w
     share-within sized =
         let f : ℕ → Ticks = λ j. share_on k (at mine j) (at other j) in
+        let n : ℕ = length mine in
         let each =
         all-at (λ (s : Ticks). s.first + s.second ≤ w) (f i) (upto n f) i (rw (upto-length n f) below) sized.each in
         rw (upto-at n f (f i) i below, both-on k (at mine i) (at other i)) at each
@@ -188,10 +203,10 @@ module _ (class : Class) (k : Kind) (w n : ℕ) (mine other : List ℕ) where
       this = chosen (class_of class k w) k i (share_on k (at mine i) (at other i) ∷ [])
 
       abbrev those : List Piece
-      those = chosen (class_of class k w) k (i + 1) (drop (i + 1) (shares_on k n mine other))
+      those = chosen (class_of class k w) k (i + 1) (drop (i + 1) (shares_on k mine other))
 
       parts : filled k w (filling_of w column p) (this ++ those) ≡ end
-      parts = rw (upto_left n (λ j. share_on k (at mine j) (at other j)) i below, chosen-cons) at passing.is
+      parts = rw (upto_left (length mine) (λ j. share_on k (at mine j) (at other j)) i below, chosen-cons) at passing.is
 
       pub pass-asks : Asks w column p (after class k w i (at mine i) (at other i) (filling_of w column p))
       pass-asks = asks-part k (filling_of w column p) this those (rw parts passing.asks)
@@ -204,7 +219,7 @@ module _ (class : Class) (k : Kind) (w n : ℕ) (mine other : List ℕ) where
             is = rest k (filling_of w column p) this those stands ∙ parts;
           }
 
-  pub pass-ends : {end : Filling} {column : List ℕ} {p : Spot} → Passing end column p n → Stands w end column p
+  pub pass-ends : {end : Filling} {column : List ℕ} {p : Spot} → Passing end column p (length mine) → Stands w end column p
   unfolding chosen filled
   pass-ends passing =
-      record { is = rw (upto-none n (λ j. share_on k (at mine j) (at other j))) at passing.is; inside = passing.asks.inside }
+      record { is = rw (upto-none (length mine) (λ j. share_on k (at mine j) (at other j))) at passing.is; inside = passing.asks.inside }

@@ -1,6 +1,8 @@
 -- The rows of a table that is filled: they are the slices of the definition, one behind the other, and the rest is as it was.
 -- One idea: to write one list of rows and then another behind it is to write both. Assumes nothing.
+--   seen           the shares of two columns, by a kind's ticks and the other's
 --   kind           the table after a kind, from a row on
+--   sized          what each kind asks of the columns
 --   first-asks     what is asked before the first kind
 --   second-asks    and before the second
 --   table_filled   both kinds give the table
@@ -10,16 +12,20 @@ use Prim.Native.Nat.{ℕ, suc, ◌+◌, ◌*◌, ◌≤◌}
 use native.Mathlib.Omega.{arith}
 use lib.ListN.{length, drop, set, length-append, length-map}
 use lib.Seq.{set_at}
-use Rattle.model.specs.Limits.{cores_most, slices_most}
+use Rattle.rows.specs.Upto.{at}
+use Rattle.rows.proofs.Upto.{upto-length}
+use Rattle.model.specs.Board.{on}
+use Rattle.model.specs.Columns.{shares_in}
+use Rattle.model.specs.Limits.{cores_most, jobs_most, slices_most}
 use Rattle.model.specs.Packed.{pack_of}
-use Rattle.model.specs.Split.{Ticks, ticks_of}
+use Rattle.model.specs.Split.{Ticks, share, ticks_of}
 use Rattle.model.specs.declared.Kind.{Kind}
 use Rattle.model.specs.declared.Kind.TheVariants.{First, Second}
 use Rattle.model.specs.declared.Slice.{Slice}
 use Rattle.slices.specs.Table.{Piece, cut_of, packed, pieces_of, table_of}
 use Rattle.slices.proofs.Packs.{total}
 use Rattle.slices.proofs.Pieces.{pieces-total}
-use Rattle.columns.specs.Packing.{Filling, filling_of, begun, written, placed, filled, Asks, Rowed, TableAsks, Tabled}
+use Rattle.columns.specs.Packing.{shares_on, Filling, filling_of, begun, written, placed, filled, Sized, Asks, Rowed, TableAsks, Tabled}
 
 written-append : (rows : List ℕ) (i : ℕ) (xs ys : List ℕ) → written rows i (xs ++ ys) ≡ written (written rows i xs) (i + length xs) ys
 unfolding written
@@ -54,19 +60,37 @@ filled-packed k w t (p ∷ ps) =
     (filled-packed k w (placed k w t p) ps)
 
 -- The two kinds, one behind the other.
-module _ (w : ℕ) (ss : List Ticks) (asks : TableAsks w ss) where
+module _ (w : ℕ) (a b : List ℕ) (same : length b ≡ length a) (asks : TableAsks w (shares_in (length a) a b)) where
+  abbrev ss : List Ticks
+  ss = shares_in (length a) a b
+
+  pub seen : (k : Kind) → shares_on k (on k a b) (on k b a) ≡ ss
+  seen First = refl
+  seen Second = ap (λ (n : ℕ). shares_in n a b) same
+
+  pub sized : (k : Kind) → Sized k w (on k a b) (on k b a)
+  sized k = record { same = lengths k; few = few k; each = rw (seen k) asks.each }
+    where
+      lengths : (k : Kind) → length (on k b a) ≡ length (on k a b)
+      lengths First = same
+      lengths Second = sym same
+
+      few : (k : Kind) → length (on k a b) ≤ jobs_most
+      few First = omega (arith, asks.few, upto-length (length a) (λ i. share (at a i) (at b i)))
+      few Second = omega (arith, same, asks.few, upto-length (length a) (λ i. share (at a i) (at b i)))
+
   abbrev slices : Kind → List Slice
   slices k = packed k w 0 (pieces_of k w ss)
 
   abbrev pub kind : Kind → List ℕ → ℕ → Filling
-  kind k column count = filled k w (filling_of w column (begun count)) (pieces_of k w ss)
+  kind k column count = filled k w (filling_of w column (begun count)) (pieces_of k w (shares_on k (on k a b) (on k b a)))
 
   kind-packed : (k : Kind) (column : List ℕ) (count : ℕ)
       → kind k column count ≡ record { rows = written column count (map pack_of (slices k)); count = count + length (slices k); at = ticks_of k ss }
   kind-packed k column count =
       let start : 0 * w + 0 ≡ 0 = omega arith in
       let none : 0 + total (pieces_of k w ss) ≡ ticks_of k ss = omega (arith, pieces-total k w ss) in
-      rw start (rw none at (filled-packed k w (record { rows = column; count = count; at = 0 }) (pieces_of k w ss)))
+      rw (seen k, start) (rw none at (filled-packed k w (record { rows = column; count = count; at = 0 }) (pieces_of k w ss)))
 
   table-length : length (slices First) + length (slices Second) ≤ slices_most
   unfolding table_of

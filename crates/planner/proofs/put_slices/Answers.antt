@@ -9,4 +9,4 @@ pub loop-i-preserved : goal.loop-i-preserved
 loop-i-preserved c =
     let a = c.args in
     let x = c.loop-i in
-    (omega arith, rw (c.slice_in.ensures, x.invariant.1) (upto-fill (λ k. slice_in (at a.slices k)) a.table.now x.i (omega arith)))
+    rw (c.from.ensures, x.invariant) (upto-fill (λ k. slice_in (at a.slices.now k)) a.table.now x.i (omega arith))

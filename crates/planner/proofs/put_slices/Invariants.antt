@@ -2,13 +2,9 @@
 -- Assumes nothing.
 use mathlib.Core.Path.{◌≡◌}
 use mathlib.Core.List.{◌++◌}
-use Prim.Native.Nat.{◌-◌, ◌≤◌}
 use lib.ListN.{drop}
 use Rattle.model.specs.Packed.{slices_in}
 use Rattle.planner.proofs.put_slices.Given as goal
 
 abbrev pub invariant-loop-i : goal.invariant-loop-i
-invariant-loop-i l = (l.i ≤ l.n) × (l.table ≡ slices_in l.i l.slices ++ drop l.i l.initial.table)
-
-abbrev pub decreases-loop-i : goal.decreases-loop-i
-decreases-loop-i l = l.n - l.i
+invariant-loop-i l = l.table ≡ slices_in l.i l.slices ++ drop l.i l.initial.table

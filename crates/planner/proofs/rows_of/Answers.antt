@@ -1,28 +1,24 @@
--- `planner::rows_of` meets its contract: each turn writes the slice of one number more, and then all rows are written. Assumes nothing.
-use mathlib.Core.Path.{◌≡◌}
+-- `planner::rows_of` meets its contract: each row is the slice of its number. Assumes nothing.
+use Prim.Native.Nat.{ℕ, ◌<◌}
+use mathlib.Core.Path.{◌≡◌, sym, ◌∙◌}
 use mathlib.Core.List.{map}
 use native.Mathlib.Omega.{arith}
 use borrow.Author.Rules.{rules}
-use lib.ListN.{length, length-map}
-use lib.Seq.{take_all}
-use Rattle.rows.specs.Upto.{at}
-use Rattle.rows.proofs.Upto.{upto-fill}
-use Rattle.model.specs.Limits.{slices_most}
+use lib.ListN.{length, get_or, length-map, get_or-map}
+use Rattle.std.proofs.lemmas.List.{same_lists, get_or_default}
 use Rattle.model.specs.Packed.{slice_in}
-use Rattle.columns.proofs.ColumnFronts.{slices-take}
+use Rattle.model.specs.Limits.{slices_most}
+use Rattle.model.specs.declared.Slice.{Slice}
 use Rattle.planner.proofs.rows_of.Goals as goal
-
-pub loop-i-preserved : goal.loop-i-preserved
-loop-i-preserved c =
-    let a = c.args in
-    let x = c.loop-i in
-    (omega arith, rw (c.slice_in.ensures, x.invariant.1) (upto-fill (λ k. slice_in (at a.slices k)) _ x.i (omega arith)))
 
 pub returns : goal.returns
 returns c =
-    let a = c.args in
-    let x = c.loop-i in
-    let end : x.i ≡ slices_most = omega arith in
-    let full : length a.slices ≡ slices_most = search rules in
-    let all = take_all slices_most (map slice_in a.slices) (omega (arith, length-map a.slices slice_in)) in
-    rw (x.invariant.1, end, slices-take slices_most a.slices (omega arith), all)
+    let xs = c.args.slices in
+    let items = c.map.ensures.items in
+    let each : (k : ℕ) (d : Slice) → k < slices_most → get_or c.map.result k d ≡ slice_in (get_or xs k 0) =
+    λ k d h. let x = items.at k 0 d h in search rules in
+    let full : length xs ≡ slices_most = search rules in
+    let size : length c.map.result ≡ slices_most = items.long in
+    let same = length-map xs slice_in in
+    same_lists c.map.result (map slice_in xs) (omega arith)
+    (λ k d h. each k d (omega arith) ∙ sym (get_or_default (map slice_in xs) k d (slice_in 0) (omega arith) ∙ get_or-map slice_in xs k 0))
