@@ -1,7 +1,6 @@
 -- Lines of hexadecimal: docs/SPEC.md, "The text". A record is a list of bytes, and stands in a line of its own.
 --   joined        a byte at the front of the first of some lines
 --   lines_of      the lines of a text: each ends at a line feed, and the last may lack it
---   Maybe         what may be missing
 --   nibble_of     the value of a hexadecimal digit, small or capital
 --   byte_of       the byte of two digits' values
 --   at_front      a byte at the front of bytes, where none is missing
@@ -15,7 +14,7 @@
 --   number_from   the number that bytes spell behind a number
 --   number_in     the number that bytes spell, the high byte first
 -- Assumes nothing.
-use Rattle.std.specs.Prelude.{Bool, cond, ◌&&◌, List, [], ◌∷◌, ◌++◌, ℕ, zero, suc, ◌+◌, ◌-◌, ◌*◌, ◌/◌, ◌%◌, leb, eqb, ltb}
+use Rattle.std.specs.Prelude.{Bool, cond, ◌&&◌, List, [], ◌∷◌, ◌++◌, ℕ, zero, suc, ◌+◌, ◌-◌, ◌*◌, ◌/◌, ◌%◌, leb, eqb, ltb, Option, None, Some}
 
 abbrev pub joined : ℕ → List (List ℕ) → List (List ℕ)
 joined b [] = (b ∷ []) ∷ []
@@ -25,36 +24,32 @@ unfoldable pub lines_of : List ℕ → List (List ℕ)
 lines_of [] = []
 lines_of (b ∷ bs) = cond (eqb b 10) ([] ∷ lines_of bs) (joined b (lines_of bs))
 
-pub data Maybe (A : Type 0) : Type 0 where
-  none : Maybe A
-  some : A → Maybe A
-
 abbrev between : ℕ → ℕ → ℕ → Bool
 between lo hi b = leb lo b && leb b hi
 
 -- 0 to 9, a to f, A to F.
-unfoldable pub nibble_of : ℕ → Maybe ℕ
+unfoldable pub nibble_of : ℕ → Option ℕ
 nibble_of b =
-    cond (between 48 57 b) (some (b - 48)) (cond (between 97 102 b) (some (b - 87)) (cond (between 65 70 b) (some (b - 55)) none))
+    cond (between 48 57 b) (Some (b - 48)) (cond (between 97 102 b) (Some (b - 87)) (cond (between 65 70 b) (Some (b - 55)) None))
 
-abbrev pub byte_of : Maybe ℕ → Maybe ℕ → Maybe ℕ
-byte_of none l = none
-byte_of (some h) none = none
-byte_of (some h) (some l) = some (16 * h + l)
+abbrev pub byte_of : Option ℕ → Option ℕ → Option ℕ
+byte_of None l = None
+byte_of (Some h) None = None
+byte_of (Some h) (Some l) = Some (16 * h + l)
 
-abbrev pub at_front : Maybe ℕ → Maybe (List ℕ) → Maybe (List ℕ)
-at_front none bs = none
-at_front (some b) none = none
-at_front (some b) (some bs) = some (b ∷ bs)
+abbrev pub at_front : Option ℕ → Option (List ℕ) → Option (List ℕ)
+at_front None bs = None
+at_front (Some b) None = None
+at_front (Some b) (Some bs) = Some (b ∷ bs)
 
-unfoldable pub pairs_of : List ℕ → Maybe (List ℕ)
-pairs_of [] = some []
-pairs_of (h ∷ []) = none
+unfoldable pub pairs_of : List ℕ → Option (List ℕ)
+pairs_of [] = Some []
+pairs_of (h ∷ []) = None
 pairs_of (h ∷ l ∷ rest) = at_front (byte_of (nibble_of h) (nibble_of l)) (pairs_of rest)
 
 -- A line with no digits is none.
-unfoldable pub bytes_of : List ℕ → Maybe (List ℕ)
-bytes_of [] = none
+unfoldable pub bytes_of : List ℕ → Option (List ℕ)
+bytes_of [] = None
 bytes_of (b ∷ bs) = pairs_of (b ∷ bs)
 
 abbrev pub glyph_of : ℕ → ℕ

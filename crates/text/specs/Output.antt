@@ -9,22 +9,19 @@
 --   refused_text      a refusal's
 --   writes            what a writer answers: the count of the bytes, or the refusal of a lent text that is too short
 --   written           a lent text with bytes at its front; where it is too short for them it stays
---   says_written      what the code's answer says
 --   Writes            what a writer promises: its answer, and every byte of the lent text
 --   answer_most       the most bytes that an answer has
 -- Assumes nothing.
-use Rattle.std.specs.Prelude.{cond, List, [], ◌∷◌, ◌++◌, map, ◌≡◌, ℕ, ◌+◌, ◌*◌, ltb, length}
+use Rattle.std.specs.Prelude.{cond, List, [], ◌∷◌, ◌++◌, map, ◌≡◌, ℕ, ◌+◌, ◌*◌, ltb, length, Result}
 use Rattle.rows.specs.Lists.{front}
 use Rattle.model.specs.Limits.{jobs_most, slices_most}
 use Rattle.model.specs.Packed.{kind_number}
-use Rattle.model.specs.Refusal.{Answer, given, says_refusal}
+use Rattle.model.specs.Refusal.{Answer, given, says, says_refusal}
 use Rattle.model.specs.Split.{Ticks}
 use Rattle.model.specs.declared.Refusal.{Refusal}
 use Rattle.model.specs.declared.Slice.{Slice}
 use Rattle.text.specs.Hex.{text_of}
 use Rattle.text.specs.Records.{counts_form, share_form, slice_form, refusal_form, line_size, record_of}
-use Rattle.text.specs.declared.Written.{Written}
-use Rattle.text.specs.declared.Written.TheVariants.{Bytes, Refused}
 
 abbrev pub count_record : (jobs slices : ℕ) → List ℕ
 count_record jobs slices = record_of counts_form (jobs ∷ slices ∷ [])
@@ -58,13 +55,9 @@ writes short text new = cond (ltb (length text) (length new)) (says_refusal shor
 abbrev pub written : (text new : List ℕ) → List ℕ
 written text new = cond (ltb (length text) (length new)) text (front new text)
 
-abbrev pub says_written : Written → Answer ℕ
-says_written (Bytes n) = given n
-says_written (Refused r) = says_refusal r
-
 -- A lent text before and after the lines were written.
-pub record Writes (short : Refusal) (before after lines : List ℕ) (r : Written) : Type 0 where
-  pub says : says_written r ≡ writes short before lines
+pub record Writes (short : Refusal) (before after lines : List ℕ) (r : Result ℕ Refusal) : Type 0 where
+  pub says : says r ≡ writes short before lines
   pub text : after ≡ written before lines
 
 -- The counts' line, a line for each job and a line for each slice, where there are as many as can be.

@@ -5,16 +5,8 @@
 mod records;
 mod writer;
 
-use model::Refusal;
 pub use records::{
     ANSWER_MOST, BOARD, BOARD_SIZE, COST_DIGITS, COUNTS, COUNTS_SIZE, HEAD_DIGITS, JOB, JOB_SIZE,
     SHARE, SHARE_SIZE, SLICE, SLICE_SIZE,
 };
-pub use writer::{write_plan, write_refusal};
-
-// How many bytes of a lent text were written, or the refusal of a text that is too short.
-#[derive(Clone, Copy)]
-pub enum Written {
-    Bytes(usize),
-    Refused(Refusal),
-}
+pub use writer::{slice_record, write_plan, write_refusal};

@@ -1,5 +1,6 @@
 // The records of the text, each once for the code: its first byte, and how many bytes it has. specs/Records.antt has the same for the definitions, by
-// the fields of each.
+// the fields of each. First bytes are numbers and no enum, since each is a byte that stands in a text. Those of an input have 32 bits, as the numbers
+// have that a reader matches them with, and those of an answer 8, as they are written.
 use model::{JOBS_MOST, SLICES_MOST};
 
 pub const BOARD: u32 = 0x01;
@@ -36,7 +37,7 @@ pub const HEAD_DIGITS: usize = 2 * HEAD_SIZE;
 
 pub const COST_DIGITS: usize = 2 * COST_SIZE;
 
-// The bytes of a line: the digits of its record, and a line feed.
+// The bytes of a line: the digits of its record, and a line feed. Each is written out, since the value of a constant has no call yet.
 pub const COUNTS_LINE: usize = 2 * COUNTS_SIZE + 1;
 
 pub const SHARE_LINE: usize = 2 * SHARE_SIZE + 1;
