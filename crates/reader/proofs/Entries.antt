@@ -1,68 +1,69 @@
--- What a record says, by its first byte and its length. The idea: the tests of `entry_of` come out by what the code found. Assumes nothing.
-use mathlib.Core.Bool.{true, false}
+-- What a line says, by the numbers of its cut. The idea: the tests of `entry_of` are those of the code, and where one holds the fields of the record
+-- are the numbers'. Assumes nothing.
+use mathlib.Core.Bool.{Bool, true, false, cond, ◌&&◌}
 use mathlib.Core.List.{List}
-use mathlib.Core.Path.{◌≡◌, refl, sym, ap, ◌∙◌}
-use Prim.Native.Nat.{ℕ, ◌+◌, ◌*◌, ◌/◌, ◌%◌, ◌<◌}
+use mathlib.Core.Path.{◌≡◌, refl, ap}
+use Prim.Native.Nat.{ℕ, ◌/◌, ◌%◌}
 use native.Mathlib.Omega.{arith}
-use lib.ListN.{length, get_or}
+use borrow.Author.Tests.{eqb-true}
+use lib.Dec.{eqb}
+use lib.ListN.{length}
 use lib.Seq.{drop-drop}
-use Rattle.rows.proofs.Never.{never}
-use Rattle.model.specs.Refusal.{Answer, given, refused, and_then}
-use Rattle.model.specs.declared.Board.{Board}
-use Rattle.text.specs.Hex.{Maybe, none, some, bytes_of}
-use Rattle.text.specs.Records.{board_form, job_form, size_of, is_a, field}
-use Rattle.reader.specs.Input.{job_in, entry_job, entry_of, record_says, bytes_say, line_says}
-use Rattle.reader.specs.Reader.{is_there, HoldsRecord}
-use Rattle.reader.specs.declared.Entry.{Entry}
+use Rattle.std.specs.Prelude.{Option, None, Some}
+use Rattle.model.specs.Refusal.{refused}
+use Rattle.text.specs.Hex.{bytes_of}
+use Rattle.text.specs.Records.{Form, board_form, job_form, size_of, field}
+use Rattle.reader.specs.Input.{entry_job, job_in, entry_of, record_says, line_says}
+use Rattle.reader.specs.Cut.{line_in, CutAt}
+use Rattle.reader.specs.Reader.{entry_by, size_says, cut_says}
+use Rattle.reader.specs.declared.Cut.{Cut}
 use Rattle.reader.specs.declared.Entry.TheVariants.{OfBoard}
-use Rattle.reader.specs.declared.Numbers.{Numbers}
-use Rattle.reader.proofs.Digits.{or_empty, record_in}
-use Rattle.reader.proofs.Forms.{is_a-so, is_a-not, head-parts, board-parts}
+use Rattle.reader.proofs.Cuts.{Spelled, cut-none, cut-spelled, spelled-board}
+use Rattle.reader.proofs.Forms.{is_a-by, head-parts}
 
--- What a record says, by its numbers.
-module _ (bs : List ℕ) (size : ℕ) (line : Numbers) (h : HoldsRecord bs size line) where
-  tag_is : 1 < size → line.head / 256 ≡ get_or bs 0 0
-  tag_is more = rw h.head (head-parts bs h.small (omega (arith, h.size_is))).0
+-- What is asked only where a test holds.
+where_true : {A : Type 0} (t : Bool) {x y z w : A} → (t ≡ true → x ≡ y) → z ≡ w → cond t x z ≡ cond t y w
+where_true true e f = e refl
+where_true false e f = f
 
-  pub holds-job : size ≡ size_of job_form → line.head / 256 ≡ job_form.tag → entry_of bs ≡ entry_job (job_in (line.head % 256) line.a line.b)
+both : (p q : Bool) → p && q ≡ true → q ≡ true
+both p q e = grind arith
+
+module _ {rest : List ℕ} {from : ℕ} {cut : Cut} (s : Spelled rest from cut) where
+  -- The code's test of a form.
+  abbrev tested : Form → Bool
+  tested f = eqb (cut.head / 256) f.tag && eqb (length s.bytes) (size_of f)
+
+  sized : (f : Form) → tested f ≡ true → length s.bytes ≡ size_of f
+  sized f e = eqb-true _ _ (both _ _ e)
+
+  entry-by : entry_by cut (length s.bytes) ≡ entry_of s.bytes
   unfolding entry_of
-  holds-job e tag =
-      let no-board : is_a board_form bs ≡ false = is_a-not board_form bs (λ _ n. omega (arith, h.size_is)) in
-      let is-job : is_a job_form bs ≡ true = is_a-so job_form bs (sym (tag_is (omega arith)) ∙ tag) (sym h.size_is ∙ e) in
-      let allowed : line.head % 256 ≡ field job_form 0 bs = rw h.head (head-parts bs h.small (omega (arith, h.size_is))).1 in
-      rw (no-board, is-job, allowed, h.a, h.b, drop-drop 1 1 bs, drop-drop 4 2 bs)
+  entry-by =
+      rw (is_a-by board_form s.bytes s.small (omega arith), is_a-by job_form s.bytes s.small (omega arith), ← s.head)
+      (where_true (tested board_form) (λ e. ap (λ b. Some (OfBoard b)) (spelled-board s (sized board_form e)))
+      (where_true (tested job_form) {z = None} (λ e. job (sized job_form e)) refl))
+    where
+      job : length s.bytes ≡ size_of job_form
+          → entry_job (job_in (cut.head % 256) cut.a cut.b) ≡ entry_job (job_in (field job_form 0 s.bytes) (field job_form 1 s.bytes) (field job_form 2 s.bytes))
+      job e =
+          let allowed : cut.head % 256 ≡ field job_form 0 s.bytes = rw s.head (head-parts s.bytes s.small (omega arith)).1 in
+          rw (allowed, s.a, s.b, drop-drop 1 1 s.bytes, drop-drop 4 2 s.bytes)
 
-  pub holds-board : size ≡ size_of board_form → line.head / 256 ≡ board_form.tag
-      → entry_of bs ≡ some (OfBoard (record { window = line.head % 256 * 256 + line.a / 65536 % 256; first = line.a / 256 % 256; second = line.a % 256 }))
-  unfolding entry_of
-  holds-board e tag =
-      let n : length bs ≡ size_of board_form = sym h.size_is ∙ e in
-      let is-board : is_a board_form bs ≡ true = is_a-so board_form bs (sym (tag_is (omega arith)) ∙ tag) n in
-      rw (is-board, h.head, h.a) (ap (λ (b : Board). some (OfBoard b)) (board-parts bs n h.small))
+-- What a line says, by its bytes.
+pub line_says-none : (i : ℕ) (line : List ℕ) → bytes_of line ≡ None → line_says i line ≡ refused 8 i
+line_says-none i line e = rw e
 
-  pub holds-none : (size ≡ size_of job_form → line.head / 256 ≡ job_form.tag → ⊥) → (size ≡ size_of board_form → line.head / 256 ≡ board_form.tag → ⊥)
-      → entry_of bs ≡ none
-  unfolding entry_of
-  holds-none job board =
-      let no-board : is_a board_form bs ≡ false = is_a-not board_form bs (λ tag n. board (h.size_is ∙ n) (tag_is (omega (arith, h.size_is)) ∙ tag)) in
-      let no-job : is_a job_form bs ≡ false = is_a-not job_form bs (λ tag n. job (h.size_is ∙ n) (tag_is (omega (arith, h.size_is)) ∙ tag)) in
-      rw (no-board, no-job)
+pub line_says-record : (i : ℕ) (line bytes : List ℕ) → bytes_of line ≡ Some bytes → line_says i line ≡ record_says i (entry_of bytes)
+line_says-record i line bytes e = rw e
 
--- A line that spells no record, and one that does.
-line_says-cases : (i : ℕ) (m : Maybe (List ℕ)) → (is_there m ≡ false → bytes_say i m ≡ refused 8 i) × (is_there m ≡ true → bytes_say i m ≡ record_says i (entry_of (or_empty m)))
-line_says-cases i none = (λ h. refl, λ h. cc)
-line_says-cases i (some bs) = (λ h. cc, λ h. refl)
-
-pub line_says-none : (i : ℕ) (line : List ℕ) → is_there (bytes_of line) ≡ false → line_says i line ≡ refused 8 i
-line_says-none i line = (line_says-cases i (bytes_of line)).0
-
-pub line_says-record : (i : ℕ) (line : List ℕ) → is_there (bytes_of line) ≡ true → line_says i line ≡ record_says i (entry_of (record_in line))
-line_says-record i line = (line_says-cases i (bytes_of line)).1
-
--- A line that gives something spells a record.
-pub given-there : {A : Type 0} (i : ℕ) (line : List ℕ) (f : Entry → Answer A) (x : A) → and_then (line_says i line) f ≡ given x → is_there (bytes_of line) ≡ true
-given-there {A} i line f x e = go (bytes_of line) e
+-- What every line says of which the cut is.
+pub cut-says : (i : ℕ) {rest : List ℕ} {from : ℕ} {cut : Cut} → CutAt rest from cut → cut_says i cut ≡ line_says i (line_in rest)
+cut-says i {rest} {from} {cut} at = go cut.size refl
   where
-    go : (m : Maybe (List ℕ)) → and_then (bytes_say i m) f ≡ given x → is_there m ≡ true
-    go none e = never (cc)
-    go (some bs) e = refl
+    go : (m : Option ℕ) → cut.size ≡ m → size_says i cut m ≡ line_says i (line_in rest)
+    go None e = rw (cut-none rest from cut at e)
+    go (Some n) e =
+        let s = cut-spelled rest from cut at e in
+        let f : n ≡ length s.bytes = cc s.size in
+        rw (f, s.is) (ap (record_says i) (entry-by s))

@@ -3,17 +3,15 @@
 --   gives-refused   a set that is refused, and gives-short: columns that are too short for some set
 --   gives_set       costs that were copied from columns of the set's
 --   gives_as        an outcome of an answer by another name
-use mathlib.Core.Bool.{Bool, true, false, ◌||◌}
-use mathlib.Core.List.{List, [], ◌∷◌, ◌++◌, map}
-use mathlib.Core.Path.{◌≡◌, refl, sym, ap, subst, ◌∙◌}
+use mathlib.Core.Bool.{true, false}
+use mathlib.Core.List.{List, ◌++◌, map}
+use mathlib.Core.Path.{◌≡◌, refl, sym, subst, ◌∙◌}
 use Prim.Native.Nat.{ℕ, ◌≤◌}
 use native.Mathlib.Omega.{arith}
-use borrow.Author.Tests.{ltb-false}
-use lib.Dec.{ltb}
-use lib.ListN.{length, drop, length-map}
+use lib.ListN.{length, take, drop, length-map}
+use lib.Seq.{take-append_seam}
+use Rattle.std.specs.Prelude.{Result, Ok, Err}
 use Rattle.rows.specs.Lists.{front}
-use Rattle.rows.specs.Upto.{upto, at}
-use Rattle.rows.proofs.Never.{never}
 use Rattle.model.specs.Columns.{cost_on, costs}
 use Rattle.model.specs.Limits.{jobs_most}
 use Rattle.model.specs.Refusal.{Answer, given, says_refusal}
@@ -25,23 +23,14 @@ use Rattle.model.specs.declared.Refusal.{Refusal}
 use Rattle.model.specs.declared.Refusal.TheVariants.{TooShort}
 use Rattle.reader.specs.Input.{Input, short}
 use Rattle.reader.specs.Reader.{GivesIn}
-use Rattle.reader.specs.declared.Reading.{Reading}
-use Rattle.reader.specs.declared.Reading.TheVariants.{Set, Refused}
+use Rattle.reader.specs.declared.Head.{Head}
 
-pub enough : (m1 m2 : ℕ) → short m1 m2 ≡ false → (jobs_most ≤ m1) × (jobs_most ≤ m2)
-enough m1 m2 e = go (ltb m1 jobs_most) (ltb m2 jobs_most) refl refl e
-  where
-    go : (a b : Bool) → ltb m1 jobs_most ≡ a → ltb m2 jobs_most ≡ b → (a || b) ≡ false → (jobs_most ≤ m1) × (jobs_most ≤ m2)
-    go false false a b e = (ltb-false _ _ a, ltb-false _ _ b)
-    go true q a b e = never (cc)
-    go false true a b e = never (cc)
-
-pub gives_as : {a b : Answer Input} {c1 c2 c1' c2' : List ℕ} {r : Reading} → GivesIn a c1 c2 r c1' c2' → b ≡ a → GivesIn b c1 c2 r c1' c2'
+pub gives_as : {a b : Answer Input} {c1 c2 c1' c2' : List ℕ} {r : Result Head Refusal} → GivesIn a c1 c2 r c1' c2' → b ≡ a → GivesIn b c1 c2 r c1' c2'
 gives_as {c1 = c1} {c2} {c1'} {c2'} {r} g e = subst (λ (x : Answer Input). GivesIn x c1 c2 r c1' c2') (sym e) g
 
-pub gives-refused : {a : Answer Input} {c1 c2 : List ℕ} (r : Refusal) → a ≡ says_refusal r → GivesIn a c1 c2 (Refused r) c1 c2
-gives-refused {c1 = c1} {c2} r e =
-    let none : GivesIn (says_refusal r) c1 c2 (Refused r) c1 c2 = record { says = refl; few = omega arith; first = refl; second = refl } in
+pub gives-refused : {a : Answer Input} {c1 c2 : List ℕ} {r : Refusal} → a ≡ says_refusal r → GivesIn a c1 c2 (Err r) c1 c2
+gives-refused {c1 = c1} {c2} {r} e =
+    let none : GivesIn (says_refusal r) c1 c2 (Err r) c1 c2 = record { says = refl; few = omega arith; first = refl; second = refl } in
     gives_as none e
 
 -- A set of n jobs, of which two columns have the costs at their front.
@@ -49,17 +38,13 @@ module _ (board : Board) (js : List Job) {n : ℕ} (size : length js ≡ n) (few
   abbrev set : Answer Input
   set = given (record { board = board; jobs = js })
 
-  pub gives-short : short (length c1) (length c2) ≡ true → GivesIn set c1 c2 (Refused TooShort) c1 c2
+  pub gives-short : short (length c1) (length c2) ≡ true → GivesIn set c1 c2 (Err TooShort) c1 c2
   gives-short e = rw e (record { says = refl; few = omega arith; first = refl; second = refl })
 
-  copied : (k : Kind) (c : List ℕ) {c' cs : List ℕ} → cs ≡ costs k js → c' ≡ upto n (λ i. at cs i) ++ drop n c → c' ≡ front (map (cost_on k) js) c
-  copied k c is put = put ∙ rw (is, ← size, length-map js (cost_on k)) (ap (λ (l : List ℕ). l ++ drop (length js) c) (go js _))
-    where
-      go : (is : List Job) (l : List ℕ) → upto (length is) (λ i. at (map (cost_on k) is ++ l) i) ≡ map (cost_on k) is
-      go [] l = refl
-      go (j ∷ is) l = ap (λ (t : List ℕ). cost_on k j ∷ t) (go is l)
+  copied : (k : Kind) (c : List ℕ) {c' cs : List ℕ} → cs ≡ costs k js → c' ≡ take n cs ++ drop n c → c' ≡ front (map (cost_on k) js) c
+  copied k c is put = put ∙ rw (is, ← size, ← length-map js (cost_on k), take-append_seam)
 
   pub gives_set : short (length c1) (length c2) ≡ false → {a b c1' c2' : List ℕ} → a ≡ costs First js → b ≡ costs Second js
-      → c1' ≡ upto n (λ i. at a i) ++ drop n c1 → c2' ≡ upto n (λ i. at b i) ++ drop n c2 → GivesIn set c1 c2 (Set board n) c1' c2'
+      → c1' ≡ take n a ++ drop n c1 → c2' ≡ take n b ++ drop n c2 → GivesIn set c1 c2 (Ok (record { board = board; jobs = n })) c1' c2'
   gives_set e first second put1 put2 =
       rw e (record { says = rw size; few = omega arith; first = copied First c1 first put1; second = copied Second c2 second put2 })

@@ -1,5 +1,5 @@
--- The proof that a function meets its contract is in the folder of its name. These are what such proofs cite, in reading order, and the theorems that
--- stand beside the promises.
+-- What the check does not find of the proof that a function meets its contract is in the folder of its name. These are what such
+-- proofs cite, in reading order, and the theorems that stand beside the promises.
 --
 -- The lines of a text, one by one.
 pub mod Lines

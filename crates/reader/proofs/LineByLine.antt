@@ -1,13 +1,12 @@
 -- The turns of the reader's loop over the lines of jobs. The idea: what the lines from here on give, put behind the jobs so far, is what all lines
 -- give. Assumes nothing.
-use mathlib.Core.Bool.{Bool, true, false, cond}
 use mathlib.Core.List.{List, [], ◌∷◌, ◌++◌, map, append_assoc, append-nil}
 use mathlib.Core.Path.{◌≡◌, refl, sym, ◌∙◌, ap}
 use Prim.Native.Nat.{ℕ, suc, ◌+◌, ◌-◌, ◌≤◌, ◌<◌}
 use native.Mathlib.Omega.{arith}
-use borrow.Author.Tests.{ltb-true}
-use lib.Dec.{ltb}
-use lib.ListN.{length, drop, set, replicate, length-append, drop_of_length-le}
+use lib.ListN.{length, drop, set, replicate, length-append, length-map, drop_of_length-le}
+use Rattle.std.proofs.lemmas.Bool.Decides.{nat_tests}
+use Rattle.std.proofs.lemmas.List.{map-append}
 use lib.Seq.{set_at}
 use Rattle.rows.proofs.Never.{never}
 use Rattle.model.specs.Columns.{cost_on, costs}
@@ -16,13 +15,11 @@ use Rattle.model.specs.Refusal.{Answer, given, refused, and_then}
 use Rattle.model.specs.declared.Job.{Job}
 use Rattle.model.specs.declared.Kind.{Kind}
 use Rattle.model.specs.declared.Kind.TheVariants.{First, Second}
-use Rattle.text.specs.Hex.{lines_of, bytes_of}
+use Rattle.text.specs.Hex.{lines_of}
 use Rattle.reader.specs.Input.{line_says, as_job, jobs_from}
-use Rattle.reader.specs.Reader.{is_there, Costs, costs_said}
 use Rattle.reader.specs.declared.Entry.{Entry}
 use Rattle.reader.specs.declared.Entry.TheVariants.{OfBoard, OfJob}
 use Rattle.reader.proofs.Answers.{onto, onto-none, onto-more, and_then-assoc}
-use Rattle.reader.proofs.Entries.{given-there}
 
 -- The job of line i, where n were read.
 abbrev job_says : (i n : ℕ) → List ℕ → Answer Job
@@ -36,42 +33,14 @@ jobs_from-line i n line lines = and_then-assoc (line_says i line) (as_job i n) _
 -- A line that holds a job is not one too many.
 job_says-few : (i n : ℕ) (a : Answer Entry) (j : Job) → given j ≡ and_then a (as_job i n) → n < jobs_most
 job_says-few i n (given (OfBoard b)) j e = never (cc)
-job_says-few i n (given (OfJob k)) j e = go (ltb n jobs_most) refl e
-  where
-    go : (t : Bool) → ltb n jobs_most ≡ t → given j ≡ cond t (given k) (refused 3 jobs_most) → n < jobs_most
-    go true f e = ltb-true n jobs_most f
-    go false f e = never (cc)
+job_says-few i n (given (OfJob k)) j e = grind (arith, nat_tests)
 job_says-few i n (refused k p) j e = never (cc)
 
 -- The column of a kind with one job more.
 costs-more : (k : Kind) (js : List Job) (j : Job) (n : ℕ) {c : List ℕ} {x : ℕ} → length js ≡ n → n < jobs_most → c ≡ costs k js → x ≡ cost_on k j → set c n x ≡ costs k (js ++ (j ∷ []))
 costs-more k js j n size few e f =
     let left : jobs_most - length js ≡ suc (jobs_most - (length js + 1)) = omega arith in
-    rw (e, f, length-append js (j ∷ []), map_more k js, left, set_at (map (cost_on k) js) 0 (replicate (jobs_most - (length js + 1)) 0) (cost_on k j) n (map-length k js ∙ size), append_assoc)
-  where
-    map-length : (k : Kind) (js : List Job) → length (map (cost_on k) js) ≡ length js
-    map-length k [] = refl
-    map-length k (i ∷ js) = ap suc (map-length k js)
-
-    map_more : (k : Kind) (js : List Job) → map (cost_on k) (js ++ (j ∷ [])) ≡ map (cost_on k) js ++ (cost_on k j ∷ [])
-    map_more k [] = refl
-    map_more k (i ∷ js) = rw (map_more k js)
-
--- The job of a row of costs.
-pub record Held (c1 c2 : ℕ) (a : Answer Job) : Type 0 where
-  pub job : Job
-  pub is : a ≡ given job
-  pub first : c1 ≡ cost_on First job
-  pub second : c2 ≡ cost_on Second job
-
-pub held : (c1 c2 : ℕ) (a : Answer Job) → given (record { first = c1; second = c2 }) ≡ costs_said a → Held c1 c2 a
-held c1 c2 (given j) e = let f : ◌≡◌ {A = Costs} (record { first = c1; second = c2 }) (record { first = cost_on First j; second = cost_on Second j }) = cc in record { job = j; is = refl; first = ap (λ (c : Costs). c.first) f; second = ap (λ (c : Costs). c.second) f }
-held c1 c2 (refused k p) e = never (cc)
-
--- An answer that is refused has no row of costs.
-pub not-held : (k p : ℕ) (a : Answer Job) → refused k p ≡ costs_said a → a ≡ refused k p
-not-held k p (given j) e = never (cc)
-not-held k p (refused l q) e = cc
+    rw (e, f, length-append js (j ∷ []), map-append (cost_on k) js (j ∷ []), left, set_at (map (cost_on k) js) 0 (replicate (jobs_most - (length js + 1)) 0) (cost_on k j) n (length-map js (cost_on k) ∙ size), append_assoc)
 
 -- What holds at every turn: n jobs were read from the lines before `at`, and their costs are in the columns.
 pub record Turn (text : List ℕ) (from : ℕ) (c1 c2 : List ℕ) (n at : ℕ) : Type 0 where
@@ -93,16 +62,9 @@ module _ (text : List ℕ) (from : ℕ) (c1 c2 : List ℕ) (n at : ℕ) (turn : 
 
   -- The line here.
   module _ (line : List ℕ) where
-    -- It holds a job: there is room for it, and the line spells a record.
-    module _ (a b : ℕ) (h : given (record { first = a; second = b }) ≡ costs_said (job_says (n + 2) n line)) where
-      row : Held a b (job_says (n + 2) n line)
-      row = held a b _ h
-
-      pub turn-few : n < jobs_most
-      turn-few = job_says-few (n + 2) n (line_says (n + 2) line) row.job (sym row.is)
-
-      pub turn-there : is_there (bytes_of line) ≡ true
-      turn-there = given-there (n + 2) line (as_job (n + 2) n) row.job row.is
+    -- It holds a job: there is room for it.
+    turn-few : {j : Job} → given j ≡ job_says (n + 2) n line → n < jobs_most
+    turn-few h = job_says-few (n + 2) n (line_says (n + 2) line) _ h
 
     -- With the lines behind it.
     module _ (end : ℕ) (lines : lines_of (drop at text) ≡ line ∷ lines_of (drop (end + 1) text)) where
@@ -112,23 +74,21 @@ module _ (text : List ℕ) (from : ℕ) (c1 c2 : List ℕ) (n at : ℕ) (turn : 
       first-line = rw lines (jobs_from-line (n + 2) n line (lines_of (drop (end + 1) text)))
 
       -- A line that is refused decides.
-      pub turn-refused : (k p : ℕ) → refused k p ≡ costs_said (job_says (n + 2) n line) → refused k p ≡ jobs_from 2 0 (lines_of (drop from text))
-      turn-refused k p h =
-          let is : job_says (n + 2) n line ≡ refused k p = not-held k p _ h in
-          rw (first-line, is) at turn.all
+      pub turn-refused : {k p : ℕ} → refused k p ≡ job_says (n + 2) n line → refused k p ≡ jobs_from 2 0 (lines_of (drop from text))
+      turn-refused h = rw (first-line, ← h) at turn.all
 
       -- A job more.
-      pub turn_more : (a b : ℕ) → given (record { first = a; second = b }) ≡ costs_said (job_says (n + 2) n line) → Turn text from (set c1 n a) (set c2 n b) (n + 1) (end + 1)
-      turn_more a b h =
-          let few : n < jobs_most = turn-few a b h in
+      pub turn_more : {j : Job} → given j ≡ job_says (n + 2) n line → {a b : ℕ} → a ≡ cost_on First j → b ≡ cost_on Second j
+          → Turn text from (set c1 n a) (set c2 n b) (n + 1) (end + 1)
+      turn_more {j} h first second =
+          let few : n < jobs_most = turn-few h in
           let next : n + 1 + 2 ≡ n + 2 + 1 = omega arith in
-          let r = row a b h in
-          let all = sym (onto-more turn.jobs (r.job ∷ []) (jobs_from (n + 2 + 1) (n + 1) (lines_of (drop (end + 1) text)))) ∙ (rw (first-line, r.is) at turn.all) in
+          let all = sym (onto-more turn.jobs (j ∷ []) (jobs_from (n + 2 + 1) (n + 1) (lines_of (drop (end + 1) text)))) ∙ (rw (first-line, ← h) at turn.all) in
           record {
-            jobs = turn.jobs ++ (r.job ∷ []);
-            count = length-append turn.jobs (r.job ∷ []) ∙ ap (λ (m : ℕ). m + 1) turn.count;
+            jobs = turn.jobs ++ (j ∷ []);
+            count = length-append turn.jobs (j ∷ []) ∙ ap (λ (m : ℕ). m + 1) turn.count;
             few = omega arith;
-            first = costs-more First turn.jobs r.job n turn.count few turn.first r.first;
-            second = costs-more Second turn.jobs r.job n turn.count few turn.second r.second;
+            first = costs-more First turn.jobs j n turn.count few turn.first first;
+            second = costs-more Second turn.jobs j n turn.count few turn.second second;
             all = rw next all;
           }

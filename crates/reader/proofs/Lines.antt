@@ -1,40 +1,25 @@
 -- The first line of a text. The idea: the bytes before the first line feed are the first line, and the lines of what stands behind it are the others.
 -- Assumes nothing.
-use mathlib.Core.Bool.{Bool, true, false, cond}
 use mathlib.Core.List.{List, [], ◌∷◌}
-use mathlib.Core.Path.{◌≡◌, refl}
+use mathlib.Core.Path.{◌≡◌}
 use Prim.Native.Nat.{ℕ, suc, ◌+◌, ◌≤◌, ◌<◌}
 use native.Mathlib.Omega.{arith}
-use lib.Dec.{eqb}
 use lib.ListN.{length, take, drop, get_or}
 use lib.Seq.{drop-cons, drop-drop}
-use Rattle.text.specs.Hex.{lines_of, joined}
+use Rattle.text.specs.Hex.{lines_of}
 use Rattle.reader.specs.Cut.{line_length, line_in}
 
 -- A line ends within its text.
 pub line_length-fits : (bs : List ℕ) → line_length bs ≤ length bs
 unfolding line_length
 line_length-fits [] = omega arith
-line_length-fits (b ∷ bs) = go (eqb b 10) (line_length-fits bs)
-  where
-    go : (t : Bool) → line_length bs ≤ length bs → cond t 0 (suc (line_length bs)) ≤ suc (length bs)
-    go true h = omega arith
-    go false h = omega arith
+line_length-fits (b ∷ bs) = grind (arith, line_length-fits bs)
 
 -- The first line and the others.
 pub lines_of-first : (b : ℕ) (bs : List ℕ) → lines_of (b ∷ bs) ≡ take (line_length (b ∷ bs)) (b ∷ bs) ∷ lines_of (drop (suc (line_length (b ∷ bs))) (b ∷ bs))
 unfolding lines_of line_length
-lines_of-first b [] = go (eqb b 10)
-  where
-    go : (t : Bool) → cond t ([] ∷ []) ((b ∷ []) ∷ []) ≡ take (cond t 0 1) (b ∷ []) ∷ lines_of (drop (suc (cond t 0 1)) (b ∷ []))
-    go true = refl
-    go false = refl
-lines_of-first b (d ∷ bs) = go (eqb b 10) (line_length (d ∷ bs)) (lines_of-first d bs)
-  where
-    go : (t : Bool) (n : ℕ) → lines_of (d ∷ bs) ≡ take n (d ∷ bs) ∷ lines_of (drop (suc n) (d ∷ bs))
-        → cond t ([] ∷ lines_of (d ∷ bs)) (joined b (lines_of (d ∷ bs))) ≡ take (cond t 0 (suc n)) (b ∷ d ∷ bs) ∷ lines_of (drop (suc (cond t 0 (suc n))) (b ∷ d ∷ bs))
-    go true n h = refl
-    go false n h = rw h
+lines_of-first b [] = grind arith
+lines_of-first b (d ∷ bs) = grind (arith, lines_of-first d bs)
 
 module _ (text : List ℕ) (at : ℕ) (within : at < length text) where
   -- The line at a place, and the lines behind its line feed.

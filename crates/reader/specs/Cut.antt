@@ -9,11 +9,13 @@
 --   cost_size     the bytes of a cost
 --   head_digits   the digits of those before the costs
 --   cost_digits   the digits of a cost
---   size_in       how many bytes there are, and 0 where none are spelled
+--   size_in       how many bytes there are, where some are spelled
 --   CutAt         what cutting promises of a text from a place on: how many bytes its first line spells, the numbers of its digits, where they end
+--   board_by      the board of a board's line, by the numbers of its digits
 -- proofs/Cuts.antt has what it says of the line's bytes. Assumes nothing.
-use Rattle.std.specs.Prelude.{cond, List, [], ◌∷◌, ◌≡◌, ℕ, suc, ◌+◌, ◌*◌, eqb, length, take, drop, get_or}
-use Rattle.text.specs.Hex.{Maybe, none, some, nibble_of, bytes_of}
+use Rattle.std.specs.Prelude.{cond, List, [], ◌∷◌, ◌≡◌, ℕ, suc, ◌+◌, ◌*◌, ◌/◌, ◌%◌, eqb, length, take, drop, get_or, Option, None, Some}
+use Rattle.model.specs.declared.Board.{Board}
+use Rattle.text.specs.Hex.{nibble_of, bytes_of}
 use Rattle.text.specs.Records.{job_form}
 use Rattle.reader.specs.declared.Cut.{Cut}
 
@@ -24,9 +26,9 @@ line_length (b ∷ bs) = cond (eqb b 10) 0 (suc (line_length bs))
 abbrev pub line_in : List ℕ → List ℕ
 line_in text = take (line_length text) text
 
-abbrev pub digit_then : Maybe ℕ → List ℕ → List ℕ
-digit_then none ds = []
-digit_then (some x) ds = x ∷ ds
+abbrev pub digit_then : Option ℕ → List ℕ → List ℕ
+digit_then None ds = []
+digit_then (Some x) ds = x ∷ ds
 
 unfoldable pub digits_in : List ℕ → List ℕ
 digits_in [] = []
@@ -51,9 +53,9 @@ head_digits = 2 * head_size
 abbrev pub cost_digits : ℕ
 cost_digits = 2 * cost_size
 
-abbrev pub size_in : Maybe (List ℕ) → ℕ
-size_in none = 0
-size_in (some bs) = length bs
+abbrev pub size_in : Option (List ℕ) → Option ℕ
+size_in None = None
+size_in (Some bs) = Some (length bs)
 
 -- The text from the place `from` on is `rest`. Where the digits are fewer than those of a job, the numbers are of as many as there are.
 pub record CutAt (rest : List ℕ) (from : ℕ) (r : Cut) : Type 0 where
@@ -62,3 +64,7 @@ pub record CutAt (rest : List ℕ) (from : ℕ) (r : Cut) : Type 0 where
   pub a : r.a ≡ hex_in (take cost_digits (drop head_digits (digits_in rest)))
   pub b : r.b ≡ hex_in (take cost_digits (drop (head_digits + cost_digits) (digits_in rest)))
   pub end : r.end ≡ from + length (digits_in rest)
+
+-- The first two bytes of its record are in `head`, and the other three in `a`.
+abbrev pub board_by : Cut → Board
+board_by cut = record { window = cut.head % 256 * 256 + cut.a / 65536 % 256; first = cut.a / 256 % 256; second = cut.a % 256 }

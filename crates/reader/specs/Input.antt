@@ -11,55 +11,53 @@
 --   jobs_from      the jobs of the lines after the first
 --   input_from     the board and the jobs of lines, or the refusal of the first bad one
 --   input_of       a text's board and jobs, or the refusal of its first bad line
---   Head           a board, and how many jobs it has
---   head_of        an answer's board and the number of its jobs
+--   head_of        an answer's board and the number of its jobs, as the code has them
 --   jobs_given     an answer's jobs, and none where it is a refusal
---   says_reading   what the code's answer says: a head, or a refusal
 --   short          whether columns of m1 and m2 rows are too short for some set
 --   in_columns     an answer for such columns: refusal 7, last of all, where they are too short
 --   read_of        what a text says for such columns
 --   Gives          an answer of the code that says what a set gives, and every row of both columns after it
 --   Reads          the reader's answer: what its text says
 -- Assumes nothing.
-use Rattle.std.specs.Prelude.{Bool, cond, ◌&&◌, ◌||◌, List, [], ◌∷◌, map, ◌≡◌, ℕ, ◌+◌, ◌≤◌, eqb, ltb, length}
+use Rattle.std.specs.Prelude.{Bool, cond, ◌&&◌, ◌||◌, List, [], ◌∷◌, map, ◌≡◌, ℕ, ◌+◌, ◌≤◌, eqb, ltb, length, Option, None, Some, Result}
 use Rattle.rows.specs.Lists.{front}
 use Rattle.model.specs.Columns.{cost_on}
 use Rattle.model.specs.Limits.{jobs_most, text_most}
-use Rattle.model.specs.Refusal.{Answer, given, refused, says_refusal, and_then}
+use Rattle.model.specs.Refusal.{Answer, given, refused, says, and_then}
 use Rattle.model.specs.declared.Board.{Board}
 use Rattle.model.specs.declared.Job.{Job}
 use Rattle.model.specs.declared.Job.TheVariants.{Both, OnlyFirst, OnlySecond}
 use Rattle.model.specs.declared.Kind.TheVariants.{First, Second}
-use Rattle.text.specs.Hex.{Maybe, none, some, lines_of, bytes_of}
+use Rattle.model.specs.declared.Refusal.{Refusal}
+use Rattle.text.specs.Hex.{lines_of, bytes_of}
 use Rattle.text.specs.Records.{board_form, job_form, is_a, field, board_in}
 use Rattle.reader.specs.declared.Entry.{Entry}
 use Rattle.reader.specs.declared.Entry.TheVariants.{OfBoard, OfJob}
-use Rattle.reader.specs.declared.Reading.{Reading}
-use Rattle.reader.specs.declared.Reading.TheVariants.{Set, Refused}
+use Rattle.reader.specs.declared.Head.{Head}
 
 -- The cost of a kind that is not allowed has to be 0.
-unfoldable pub job_in : (allowed c1 c2 : ℕ) → Maybe Job
+unfoldable pub job_in : (allowed c1 c2 : ℕ) → Option Job
 job_in allowed c1 c2 =
-    cond (eqb allowed 0) (some (Both (record { 0 = c1 }) (record { 0 = c2 })))
-    (cond (eqb allowed 1 && eqb c2 0) (some (OnlyFirst (record { 0 = c1 })))
-    (cond (eqb allowed 2 && eqb c1 0) (some (OnlySecond (record { 0 = c2 }))) none))
+    cond (eqb allowed 0) (Some (Both (record { 0 = c1 }) (record { 0 = c2 })))
+    (cond (eqb allowed 1 && eqb c2 0) (Some (OnlyFirst (record { 0 = c1 })))
+    (cond (eqb allowed 2 && eqb c1 0) (Some (OnlySecond (record { 0 = c2 }))) None))
 
-abbrev pub entry_job : Maybe Job → Maybe Entry
-entry_job none = none
-entry_job (some j) = some (OfJob j)
+abbrev pub entry_job : Option Job → Option Entry
+entry_job None = None
+entry_job (Some j) = Some (OfJob j)
 
-unfoldable pub entry_of : List ℕ → Maybe Entry
+unfoldable pub entry_of : List ℕ → Option Entry
 entry_of r =
-    cond (is_a board_form r) (some (OfBoard (board_in r)))
-    (cond (is_a job_form r) (entry_job (job_in (field job_form 0 r) (field job_form 1 r) (field job_form 2 r))) none)
+    cond (is_a board_form r) (Some (OfBoard (board_in r)))
+    (cond (is_a job_form r) (entry_job (job_in (field job_form 0 r) (field job_form 1 r) (field job_form 2 r))) None)
 
-abbrev pub record_says : ℕ → Maybe Entry → Answer Entry
-record_says i none = refused 9 i
-record_says i (some e) = given e
+abbrev pub record_says : ℕ → Option Entry → Answer Entry
+record_says i None = refused 9 i
+record_says i (Some e) = given e
 
-abbrev pub bytes_say : ℕ → Maybe (List ℕ) → Answer Entry
-bytes_say i none = refused 8 i
-bytes_say i (some bs) = record_says i (entry_of bs)
+abbrev pub bytes_say : ℕ → Option (List ℕ) → Answer Entry
+bytes_say i None = refused 8 i
+bytes_say i (Some bs) = record_says i (entry_of bs)
 
 abbrev pub line_says : ℕ → List ℕ → Answer Entry
 line_says i line = bytes_say i (bytes_of line)
@@ -93,21 +91,13 @@ input_from (line ∷ lines) =
 unfoldable pub input_of : List ℕ → Answer Input
 input_of text = cond (ltb text_most (length text)) (refused 8 0) (input_from (lines_of text))
 
-pub record Head : Type 0 where
-  pub board : Board
-  pub count : ℕ
-
 abbrev pub head_of : Answer Input → Answer Head
-head_of (given i) = given (record { board = i.board; count = length i.jobs })
+head_of (given i) = given (record { board = i.board; jobs = length i.jobs })
 head_of (refused n p) = refused n p
 
 abbrev pub jobs_given : Answer Input → List Job
 jobs_given (given i) = i.jobs
 jobs_given (refused n p) = []
-
-abbrev pub says_reading : Reading → Answer Head
-says_reading (Set b n) = given (record { board = b; count = n })
-says_reading (Refused r) = says_refusal r
 
 abbrev pub short : (m1 m2 : ℕ) → Bool
 short m1 m2 = ltb m1 jobs_most || ltb m2 jobs_most
@@ -119,11 +109,11 @@ abbrev pub read_of : List ℕ → (m1 m2 : ℕ) → Answer Input
 read_of text m1 m2 = in_columns (input_of text) m1 m2
 
 -- What is read of a set into columns c1 and c2, where `answer` is what these get of it.
-pub record Gives (set answer : Answer Input) (c1 c2 : List ℕ) (r : Reading) (c1' c2' : List ℕ) : Type 0 where
-  pub says : says_reading r ≡ head_of answer
+pub record Gives (set answer : Answer Input) (c1 c2 : List ℕ) (r : Result Head Refusal) (c1' c2' : List ℕ) : Type 0 where
+  pub says : says r ≡ head_of answer
   pub few : length (jobs_given set) ≤ jobs_most
   pub first : c1' ≡ front (map (cost_on First) (jobs_given answer)) c1
   pub second : c2' ≡ front (map (cost_on Second) (jobs_given answer)) c2
 
-abbrev pub Reads : (text c1 c2 : List ℕ) → Reading → (c1' c2' : List ℕ) → Type 0
+abbrev pub Reads : (text c1 c2 : List ℕ) → Result Head Refusal → (c1' c2' : List ℕ) → Type 0
 Reads text c1 c2 r c1' c2' = Gives (input_of text) (read_of text (length c1) (length c2)) c1 c2 r c1' c2'
