@@ -15,6 +15,7 @@ use mathlib.Core.Bool.{true, false}
 use mathlib.Core.List.{List, [], ◌∷◌, map}
 use mathlib.Core.Path.{◌≡◌, refl}
 use Prim.Native.Nat.{ℕ, ◌+◌, ◌*◌}
+use Rattle.std.specs.Prelude.{None, Some}
 use Rattle.rows.specs.Lists.{lowest}
 use Rattle.model.specs.Packed.{pack_of, slice_in}
 use Rattle.model.specs.Refusal.{given, refused}
@@ -24,7 +25,7 @@ use Rattle.model.specs.declared.Slice.{Slice}
 use Rattle.model.proofs.BothSides.{board, row}
 use Rattle.legal.specs.Legal.{on_board}
 use Rattle.handler.specs.Check.{is_row, is_inside, is_bad, collides, meets, collision_of, check_of}
-use Rattle.handler.specs.Running.{cores_in, is_beyond, is_at, idle, runs, running_in, asked_of}
+use Rattle.handler.specs.Running.{cores_in, is_beyond, is_at, running_in, asked_of}
 use Rattle.handler.specs.Position.{next_of, left_at, answered}
 
 abbrev small : Board
@@ -146,15 +147,15 @@ pub at-cores : map (λ (core : ℕ). is_at 4 1 core held) (0 ∷ 1 ∷ 2 ∷ [])
 at-cores = refl
 
 -- ==== running_in and asked_of
-pub running-first : map (λ (tick : ℕ). running_in tick 1 0 no-pair) (0 ∷ 3 ∷ 4 ∷ 5 ∷ 6 ∷ []) ≡ runs 0 ∷ runs 0 ∷ runs 1 ∷ runs 1 ∷ idle ∷ []
+pub running-first : map (λ (tick : ℕ). running_in tick 1 0 no-pair) (0 ∷ 3 ∷ 4 ∷ 5 ∷ 6 ∷ []) ≡ Some 0 ∷ Some 0 ∷ Some 1 ∷ Some 1 ∷ None ∷ []
 unfolding running_in
 running-first = refl
 
-pub running-others : running_in 4 1 1 no-pair ∷ running_in 4 2 0 no-pair ∷ running_in 4 2 1 no-pair ∷ [] ≡ runs 2 ∷ runs 3 ∷ idle ∷ []
+pub running-others : running_in 4 1 1 no-pair ∷ running_in 4 2 0 no-pair ∷ running_in 4 2 1 no-pair ∷ [] ≡ Some 2 ∷ Some 3 ∷ None ∷ []
 unfolding running_in
 running-others = refl
 
-pub asked-ticks : map (λ (tick : ℕ). asked_of small (table no-pair) tick 1 0) (5 ∷ 9 ∷ 10 ∷ []) ≡ given (runs 1) ∷ given idle ∷ refused 11 0 ∷ []
+pub asked-ticks : map (λ (tick : ℕ). asked_of small (table no-pair) tick 1 0) (5 ∷ 9 ∷ 10 ∷ []) ≡ given (Some 1) ∷ given None ∷ refused 11 0 ∷ []
 unfolding lowest pack_of slice_in is_row collision_of check_of on_board running_in
 asked-ticks = refl
 

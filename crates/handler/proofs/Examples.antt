@@ -8,6 +8,7 @@ use mathlib.Core.List.{List, [], ◌∷◌, ◌++◌, map}
 use mathlib.Core.Path.{◌≡◌, refl}
 use Prim.Native.Nat.{ℕ}
 use lib.ListN.{take}
+use Rattle.std.specs.Prelude.{None, Some}
 use Rattle.rows.specs.Lists.{lowest}
 use Rattle.model.specs.Packed.{pack_of, slice_in}
 use Rattle.model.specs.Refusal.{given, refused}
@@ -15,7 +16,7 @@ use Rattle.model.specs.declared.Kind.TheVariants.{First, Second}
 use Rattle.model.proofs.BothSides.{board, row}
 use Rattle.legal.specs.Legal.{on_board}
 use Rattle.handler.specs.Check.{is_row, collision_of, check_of}
-use Rattle.handler.specs.Running.{idle, runs, running_in, asked_of}
+use Rattle.handler.specs.Running.{running_in, asked_of}
 
 abbrev eight : List ℕ
 eight =
@@ -27,19 +28,19 @@ pub eight-runs : check_of (board 2 2) eight ≡ given tt
 unfolding lowest on_board pack_of slice_in is_row collision_of check_of
 eight-runs = refl
 
-pub eight-first : asked_of (board 2 2) eight 0 1 0 ≡ given (runs 0)
+pub eight-first : asked_of (board 2 2) eight 0 1 0 ≡ given (Some 0)
 unfolding lowest on_board pack_of slice_in is_row collision_of check_of running_in
 eight-first = refl
 
-pub eight-last : asked_of (board 2 2) eight 9 1 0 ≡ given (runs 2)
+pub eight-last : asked_of (board 2 2) eight 9 1 0 ≡ given (Some 2)
 unfolding lowest on_board pack_of slice_in is_row collision_of check_of running_in
 eight-last = refl
 
-pub eight-second : asked_of (board 2 2) eight 9 2 0 ≡ given (runs 0)
+pub eight-second : asked_of (board 2 2) eight 9 2 0 ≡ given (Some 0)
 unfolding lowest on_board pack_of slice_in is_row collision_of check_of running_in
 eight-second = refl
 
-pub eight-idle : asked_of (board 2 2) eight 0 2 1 ≡ given idle
+pub eight-idle : asked_of (board 2 2) eight 0 2 1 ≡ given None
 unfolding lowest on_board pack_of slice_in is_row collision_of check_of running_in
 eight-idle = refl
 

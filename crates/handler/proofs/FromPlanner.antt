@@ -10,6 +10,7 @@ use Prim.Native.Nat.{ℕ, ◌<◌}
 use native.Mathlib.Omega.{arith}
 use lib.ListN.{length, take, get_or, length-take, length-map, get_or-append, get_or-map}
 use lib.Seq.{get_or-take}
+use Rattle.std.specs.Prelude.{Ok}
 use Rattle.rows.specs.Upto.{at}
 use Rattle.rows.proofs.Never.{never}
 use Rattle.rows.proofs.Upto.{upto-length}
@@ -30,9 +31,8 @@ use Rattle.model.specs.declared.Slice.{Slice}
 use Rattle.model.proofs.Packed.{inside-narrow}
 use Rattle.model.proofs.Splits.{all-done-length}
 use Rattle.legal.specs.Lawful.{Lawful}
-use Rattle.columns.specs.Plan.{Plan, columns_of, counts_in, says_planned, shares_given, slices_given}
+use Rattle.columns.specs.Plan.{Plan, columns_of, counts_in, shares_given, slices_given}
 use Rattle.columns.specs.Promise.{Columned}
-use Rattle.columns.specs.declared.Planned.TheVariants.{Plan as Counted}
 use Rattle.columns.proofs.PlanLaws.{counts-are, shares-lawful}
 use Rattle.planner.specs.Promise.{GoodPlan, Promised}
 use Rattle.planner.proofs.Demands.{rows-there, rows-by-rules}
@@ -69,19 +69,19 @@ front_at kind ss behind job l =
     none Second = get_or-map (ticks_on Second) ss job (share 0 0)
 
 module _ {board : Board} {n : ℕ} (c1 c2 : List ℕ) {s1 s2 rows s1' s2' rows' : List ℕ} {jobs slices : ℕ}
-    (c : Columned board n (jobs_in n c1 c2) s1 s2 rows (Counted jobs slices) s1' s2' rows') where
+    (c : Columned board n (jobs_in n c1 c2) s1 s2 rows (Ok (record { jobs = jobs; slices = slices })) s1' s2' rows') where
   abbrev pub made : Answer Plan
   made = columns_of board n (jobs_in n c1 c2) (length s1) (length s2) (length rows)
 
   pub columns-counts : (jobs ≡ length (shares_given made)) × (slices ≡ length (slices_given made))
-  columns-counts = counts-are jobs slices made c.says
+  columns-counts = counts-are (record { jobs = jobs; slices = slices }) made c.says
 
   pub columns-tabled : Tabled board (shares_given made) (slices_given made) (take slices rows')
   columns-tabled =
       let size : slices ≡ length (map pack_of (slices_given made)) = columns-counts.1 ∙ sym (length-map (slices_given made) pack_of) in
       rw (front-rows (map pack_of (slices_given made)) rows rows' slices size c.slices).0 (go made refl c.says)
     where
-      go : (x : Answer Plan) → made ≡ x → says_planned (Counted jobs slices) ≡ counts_in x
+      go : (x : Answer Plan) → made ≡ x → given (record { jobs = jobs; slices = slices }) ≡ counts_in x
           → Tabled board (shares_given x) (slices_given x) (map pack_of (slices_given x))
       go (given p) is says =
           let kept = columns-kept board n (jobs_in n c1 c2) (length s1) (length s2) (length rows) is in
@@ -95,7 +95,7 @@ module _ {board : Board} {n : ℕ} (c1 c2 : List ℕ) {s1 s2 rows s1' s2' rows' 
 
 -- The call over lent records.
 module _ {board : Board} {js : List Job} {ss ss' : List Share} {ls ls' : List Slice} {jobs slices : ℕ}
-    (p : Promised board js ss ls (Counted jobs slices) ss' ls') where
+    (p : Promised board js ss ls (Ok (record { jobs = jobs; slices = slices })) ss' ls') where
   pub lent-tabled : Tabled board (map ticks_of_row (take jobs ss')) (take slices ls') (map pack_of (take slices ls'))
   lent-tabled =
       good-tabled board (length js) js (map ticks_of_row (take jobs ss')) (take slices ls') refl

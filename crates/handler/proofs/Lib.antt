@@ -1,4 +1,4 @@
--- The guide to this crate's proofs, in reading order. Each function's own proof is in the folder of its name.
+-- The guide to this crate's proofs, in reading order. What the check does not find of a function's proof is in the folder of its name.
 
 -- Both sides of each line that the definitions draw. No crate cites it: it is `pub`, and first, because the checker takes public modules first, and a
 -- definition that is made weaker is then refused at an example that it makes false.
@@ -8,6 +8,8 @@ pub mod Window
 --
 -- What the tests of rows tell.
 pub mod Tests
+-- What the code finds by its iterators is what the definitions look for.
+pub mod Found
 -- How an answer runs through the checks of a table, and when exactly each refusal is given.
 pub mod Judged
 -- In a table that passes its checks one row at most is there; and a timetable passes.

@@ -20,7 +20,6 @@ use Rattle.model.specs.Terms.{Narrow}
 use Rattle.model.specs.Timetable.{Inside, Timetable}
 use Rattle.model.specs.declared.Board.{Board}
 use Rattle.model.specs.declared.Kind.{Kind}
-use Rattle.model.specs.declared.Kind.TheVariants.{First, Second}
 use Rattle.model.specs.declared.Slice.{Slice}
 use Rattle.model.proofs.Packed.{packed-back}
 use Rattle.legal.proofs.CheckByCheck.{Passed}
@@ -30,10 +29,7 @@ use Rattle.handler.proofs.Judged.{clear_at, passes-exactly}
 use Rattle.handler.proofs.Tests.{Good, Clear, at-tells}
 
 kind-once : (k l : Kind) → kind_number k ≡ kind_number l → k ≡ l
-kind-once First First e = refl
-kind-once First Second e = absurd (omega arith)
-kind-once Second First e = absurd (omega arith)
-kind-once Second Second e = refl
+kind-once k l e = grind arith
 
 -- Of two rows that are clear of each other one at most is there.
 pub clear-once : (tick kind core : ℕ) (s t : Slice) → Clear s t → is_at tick kind core s ≡ true → is_at tick kind core t ≡ true → ⊥

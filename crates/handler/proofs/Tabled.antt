@@ -9,22 +9,21 @@
 --   asked-job      a job that is answered has a share
 --   asked-place    and at a tick it is answered on one core
 use mathlib.Core.Path.{◌≡◌, refl, sym, ap, ◌∙◌}
-use mathlib.Core.Bool.{Bool, true, false, cond}
+use mathlib.Core.Bool.{false}
 use mathlib.Core.List.{List, map}
 use Prim.Native.Nat.{ℕ, ◌+◌, ◌*◌, ◌<◌}
 use native.Mathlib.Omega.{arith}
-use borrow.Author.Tests.{lt-leb, leb-true, leb-false}
-use lib.Dec.{leb}
+use borrow.Author.Tests.{lt-leb}
 use lib.ListN.{length, get_or}
+use Rattle.std.specs.Prelude.{Option, Some}
 use Rattle.rows.specs.Lists.{All}
 use Rattle.rows.specs.Numbered.{sum_below}
 use Rattle.rows.proofs.Lists.{all-at, pairs-at}
-use Rattle.rows.proofs.Never.{never}
 use Rattle.rows.proofs.Numbered.{below-same}
 use Rattle.model.specs.Board.{cores_of}
 use Rattle.model.specs.Empty.{no_slice}
 use Rattle.model.specs.Packed.{kind_number, pack_of}
-use Rattle.model.specs.Refusal.{Answer, given, refused}
+use Rattle.model.specs.Refusal.{Answer, given}
 use Rattle.model.specs.Split.{Ticks, share, ticks_on}
 use Rattle.model.specs.Terms.{Narrow}
 use Rattle.model.specs.Timetable.{Runs, Inside, Timetable}
@@ -34,7 +33,7 @@ use Rattle.model.specs.declared.Kind.TheVariants.{First, Second}
 use Rattle.model.specs.declared.Slice.{Slice}
 use Rattle.legal.proofs.CheckByCheck.{Passed}
 use Rattle.handler.specs.Check.{check_of}
-use Rattle.handler.specs.Running.{cores_in, is_beyond, Running, runs, running_in, asked_of}
+use Rattle.handler.specs.Running.{cores_in, is_beyond, running_in, asked_of}
 use Rattle.handler.proofs.AtTick.{running, resting, one-or-none, HasRow, runs-exactly}
 use Rattle.handler.proofs.Counting.{rows-window, parts-window}
 use Rattle.handler.proofs.OneRow.{table-back, table-checked}
@@ -71,17 +70,12 @@ module _ {board : Board} {ss : List Ticks} {rows : List Slice} {table : List ℕ
       t.timetable.served kind job l
 
   -- A job that is answered has a row there, whatever tick, kind and core are asked for.
-  asked-row : (tick kind core job : ℕ) → asked_of board table tick kind core ≡ given (runs job) → HasRow tick kind core job rows
+  asked-row : (tick kind core job : ℕ) → asked_of board table tick kind core ≡ given (Some job) → HasRow tick kind core job rows
   asked-row tick kind core job e =
       (runs-exactly tick kind core rows t.timetable.cores).0
-      (go (is_beyond board tick kind core) (rw (table-passes, t.is, table-back rows t.narrow) at e))
-    where
-      go : (beyond : Bool) → cond beyond (refused 11 0) (given (running_in tick kind core rows)) ≡ given (runs job)
-          → running_in tick kind core rows ≡ runs job
-      go true e = never (cc)
-      go false e = cc
+      (let says = rw (table-passes, t.is, table-back rows t.narrow) at e in grind arith)
 
-  pub asked-job : (tick kind core job : ℕ) → asked_of board table tick kind core ≡ given (runs job) → job < length ss
+  pub asked-job : (tick kind core job : ℕ) → asked_of board table tick kind core ≡ given (Some job) → job < length ss
   asked-job tick kind core job e =
       let row = asked-row tick kind core job e in
       rw row.3 at (all-at (Inside board (length ss)) no_slice rows row.0 row.1 t.timetable.inside).job
@@ -99,7 +93,7 @@ module _ {board : Board} {ss : List Ticks} {rows : List Slice} {table : List ℕ
         below-same _ _ (length ss) (asked-window kind),
       )
     where
-      answer : (tick core : ℕ) → Answer Running
+      answer : (tick core : ℕ) → Answer (Option ℕ)
       answer tick core = asked_of board table tick (kind_number kind) core
 
       one : (tick core : ℕ) → tick < board.window → core < cores_of board kind
@@ -117,19 +111,18 @@ module _ {board : Board} {ss : List Ticks} {rows : List Slice} {table : List ℕ
     apart : (i k : ℕ) → i < k → k < length rows → (at i).job ≡ job → (at k).job ≡ job → Runs (at i) tick → Runs (at k) tick → ⊥
     apart i k l m e f = pairs-at _ no_slice rows i k l m t.timetable.jobs (e ∙ sym f) tick
 
-    same_row : (s : Bool) → leb one.0 two.0 ≡ s → (u : Bool) → leb two.0 one.0 ≡ u → one.0 ≡ two.0
-    same_row true e true f = omega (arith, leb-true one.0 two.0 e, leb-true two.0 one.0 f)
-    same_row true e false f =
-        absurd (apart one.0 two.0 (leb-false two.0 one.0 f) two.1 one.3 two.3 one.2.1.1 two.2.1.1)
-    same_row false e u f =
-        absurd (apart two.0 one.0 (leb-false one.0 two.0 e) one.1 two.3 one.3 two.2.1.1 one.2.1.1)
+    same_row : one.0 ≡ two.0
+    same_row =
+        let before = λ (l : one.0 < two.0). apart one.0 two.0 l two.1 one.3 two.3 one.2.1.1 two.2.1.1 in
+        let behind = λ (l : two.0 < one.0). apart two.0 one.0 l one.1 two.3 one.3 two.2.1.1 one.2.1.1 in
+        omega (arith, before, behind)
 
     rows-place : (kind ≡ kind') × (core ≡ core')
     rows-place =
-        let here = rw (same_row (leb one.0 two.0) refl (leb two.0 one.0) refl) at one.2 in
+        let here = rw same_row at one.2 in
         (sym here.0 ∙ two.2.0, sym here.1.0 ∙ two.2.1.0)
 
-  pub asked-place : (tick job kind core kind' core' : ℕ) → asked_of board table tick kind core ≡ given (runs job)
-      → asked_of board table tick kind' core' ≡ given (runs job) → (kind ≡ kind') × (core ≡ core')
+  pub asked-place : (tick job kind core kind' core' : ℕ) → asked_of board table tick kind core ≡ given (Some job)
+      → asked_of board table tick kind' core' ≡ given (Some job) → (kind ≡ kind') × (core ≡ core')
   asked-place tick job kind core kind' core' e f =
       rows-place tick job kind core kind' core' (asked-row tick kind core job e) (asked-row tick kind' core' job f)

@@ -13,6 +13,7 @@ use native.Mathlib.Omega.{arith}
 use borrow.Author.Tests.{leb-true, leb-false}
 use lib.Dec.{leb}
 use lib.ListN.{length}
+use Rattle.std.proofs.lemmas.Bool.Decides.{nat_tests}
 use Rattle.rows.proofs.Never.{never}
 use Rattle.rows.proofs.Tells.{Tells, holds, fails, less-tells, most-tells, equal-tells, or-tells, and-tells, alike-tells}
 use Rattle.model.specs.Board.{cores_of, same_kind}
@@ -37,8 +38,7 @@ Good board x = Row x × Placed board (slice_in x)
 
 -- The kind that a byte is read as has that byte for its number exactly where the byte is 1 or 2.
 kind-back : (byte : ℕ) → (byte ≡ 1) ⊎ (byte ≡ 2) → kind_number (kind_of byte) ≡ byte
-kind-back byte (inl e) = rw e refl
-kind-back byte (inr e) = rw e refl
+kind-back byte e = grind (arith, nat_tests)
 
 kind-some : (kind : Kind) → (kind_number kind ≡ 1) ⊎ (kind_number kind ≡ 2)
 kind-some First = inl refl

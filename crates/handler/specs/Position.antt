@@ -2,15 +2,13 @@
 --   next_of      the tick after a tick, and 0 after the last: refusal 1, then refusal 11
 --   left_at      where a position is left: at the tick that is given, or where it was
 --   answered     what is answered: that it moved, or the refusal
---   says_moved   what the code's answer says
 --   MovesOn      what moving on promises: the answer, and where the position is after it
 -- Assumes nothing.
-use Rattle.std.specs.Prelude.{cond, ◌≡◌, ℕ, ◌+◌, eqb, leb}
+use Rattle.std.specs.Prelude.{cond, ◌≡◌, ℕ, ◌+◌, eqb, leb, Result}
 use Rattle.model.specs.Limits.{window_most}
-use Rattle.model.specs.Refusal.{Answer, given, refused, says_refusal}
+use Rattle.model.specs.Refusal.{Answer, given, refused, says}
+use Rattle.model.specs.declared.Refusal.{Refusal}
 use Rattle.legal.specs.Legal.{outside}
-use Rattle.handler.specs.declared.Moved.{Moved}
-use Rattle.handler.specs.declared.Moved.TheVariants.{On, Refused}
 
 unfoldable pub next_of : (window tick : ℕ) → Answer ℕ
 next_of window tick =
@@ -27,10 +25,7 @@ abbrev pub answered : Answer ℕ → Answer (Unit {0})
 answered (given next) = given tt
 answered (refused number place) = refused number place
 
-abbrev pub says_moved : Moved → Answer (Unit {0})
-says_moved On = given tt
-says_moved (Refused r) = says_refusal r
-
-pub record MovesOn (window tick : ℕ) (r : Moved) (after : ℕ) : Type 0 where
-  pub says : says_moved r ≡ answered (next_of window tick)
+-- A position that the caller lends: refused, it stays.
+pub record MovesOn (window tick : ℕ) (r : Result (Unit {0}) Refusal) (after : ℕ) : Type 0 where
+  pub says : says r ≡ answered (next_of window tick)
   pub position : after ≡ left_at tick (next_of window tick)

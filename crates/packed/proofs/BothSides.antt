@@ -8,6 +8,7 @@ use mathlib.Core.List.{List, [], ◌∷◌, ◌++◌}
 use mathlib.Core.Path.{◌≡◌, refl}
 use Prim.Native.Nat.{ℕ}
 use lib.ListN.{replicate}
+use Rattle.std.specs.Prelude.{None, Some}
 use Rattle.rows.specs.Lists.{lowest}
 use Rattle.model.specs.Packed.{slice_in, slices_in}
 use Rattle.model.specs.Refusal.{given, refused}
@@ -17,7 +18,7 @@ use Rattle.model.proofs.BothSides.{row}
 use Rattle.text.specs.Hex.{number_from}
 use Rattle.legal.specs.Legal.{on_board}
 use Rattle.handler.specs.Check.{is_row, collision_of, check_of}
-use Rattle.handler.specs.Running.{idle, runs, running_in}
+use Rattle.handler.specs.Running.{running_in}
 use Rattle.packed.specs.Packed.{packed_of, packed_most, is_packed, packed_asked, packs, laid}
 
 abbrev here : Board
@@ -51,7 +52,7 @@ pub form-none-not : Refuses []
 unfolding is_packed lowest number_from running_in
 form-none-not = refl
 
-pub form-board : packed_asked head 258 1 0 ≡ given idle
+pub form-board : packed_asked head 258 1 0 ≡ given None
 unfolding is_packed lowest number_from running_in
 form-board = refl
 
@@ -88,36 +89,36 @@ unfolding is_packed lowest number_from running_in
 form-kind-three-not = refl
 
 -- ==== packed_asked
-pub asked-first-tick : packed_asked one 258 1 0 ≡ given (runs 3)
+pub asked-first-tick : packed_asked one 258 1 0 ≡ given (Some 3)
 unfolding is_packed lowest number_from running_in
 asked-first-tick = refl
 
-pub asked-before : packed_asked one 257 1 0 ≡ given idle
+pub asked-before : packed_asked one 257 1 0 ≡ given None
 unfolding is_packed lowest number_from running_in
 asked-before = refl
 
-pub asked-last-tick : packed_asked one 260 1 0 ≡ given (runs 3)
+pub asked-last-tick : packed_asked one 260 1 0 ≡ given (Some 3)
 unfolding is_packed lowest number_from running_in
 asked-last-tick = refl
 
-pub asked-end : packed_asked one 261 1 0 ≡ given idle
+pub asked-end : packed_asked one 261 1 0 ≡ given None
 unfolding is_packed lowest number_from running_in
 asked-end = refl
 
-pub asked-other-kind : packed_asked one 258 2 0 ≡ given idle
+pub asked-other-kind : packed_asked one 258 2 0 ≡ given None
 unfolding is_packed lowest number_from running_in
 asked-other-kind = refl
 
-pub asked-second-kind : packed_asked (one ++ row_of 18 4 2) 258 2 0 ≡ given (runs 4)
+pub asked-second-kind : packed_asked (one ++ row_of 18 4 2) 258 2 0 ≡ given (Some 4)
 unfolding is_packed lowest number_from running_in
 asked-second-kind = refl
 
 -- no table that was checked has two rows there
-pub asked-first-row : packed_asked (one ++ row_of 18 4 1) 258 1 0 ≡ given (runs 3)
+pub asked-first-row : packed_asked (one ++ row_of 18 4 1) 258 1 0 ≡ given (Some 3)
 unfolding is_packed lowest number_from running_in
 asked-first-row = refl
 
-pub asked-window : packed_asked one 299 1 0 ≡ given idle
+pub asked-window : packed_asked one 299 1 0 ≡ given None
 unfolding is_packed lowest number_from running_in
 asked-window = refl
 

@@ -1,23 +1,19 @@
 -- The records of packed bytes, byte by byte: what the definitions say of a part of them is said of the bytes that the code reads. The one idea: a
 -- part of a list is the list of what stands at its places. Assumes nothing.
-use mathlib.Core.Bool.{Bool, true, false, cond, ◌&&◌, ◌||◌}
+use mathlib.Core.Bool.{◌&&◌, ◌||◌, and-true}
 use mathlib.Core.List.{List, [], ◌∷◌}
-use mathlib.Core.Path.{◌≡◌, refl, sym, ◌∙◌}
-use Prim.Native.Nat.{ℕ, ◌+◌, ◌*◌, ◌≤◌}
-use native.Mathlib.Nat.{add-zero}
+use mathlib.Core.Path.{◌≡◌, sym, ap, ◌∙◌}
+use Prim.Native.Nat.{ℕ, ◌+◌, ◌*◌}
 use native.Mathlib.Omega.{arith}
-use borrow.Author.Tests.{eqb-true}
 use lib.Dec.{eqb, leb, ltb}
-use lib.ListN.{length, take, drop}
-use Rattle.rows.specs.Upto.{at}
-use Rattle.rows.proofs.Upto.{upto-part}
-use Rattle.rows.proofs.Never.{never}
-use Rattle.model.specs.Packed.{kind_number, kind_of}
-use Rattle.model.specs.declared.Kind.TheVariants.{First, Second}
+use lib.ListN.{length}
+use lib.Seq.{take_all}
+use Rattle.rows.specs.Upto.{upto, at}
+use Rattle.rows.proofs.Upto.{upto_take}
 use Rattle.text.specs.Hex.{number_from, number_in}
-use Rattle.text.specs.Records.{board_form, slice_form, size_of, board_in}
-use Rattle.handler.specs.Running.{is_at}
-use Rattle.packed.specs.Packed.{is_slice, slice_of}
+use Rattle.text.specs.Records.{slice_form, field, board_in}
+use Rattle.packed.specs.Packed.{is_slice}
+use Rattle.packed.specs.Asking.{is_there}
 
 -- Two bytes, the high one first.
 abbrev pair_of : (high low : ℕ) → ℕ
@@ -31,43 +27,24 @@ pair_is : (high low : ℕ) → number_in (high ∷ low ∷ []) ≡ pair_of high 
 unfolding number_from
 pair_is high low = omega arith
 
-and-true : (t u : Bool) → (t && true) && u ≡ t && u
-and-true true u = refl
-and-true false u = refl
+-- A list of n bytes is the list of what stands at its places.
+whole : (n : ℕ) (bytes : List ℕ) → length bytes ≡ n → bytes ≡ upto n (at bytes)
+whole n bytes long = sym (upto_take n bytes (omega arith) ∙ take_all n bytes (omega arith))
 
-kind-is : (t : Bool) (k : ℕ) → t && (eqb k 1 || eqb k 2) ≡ true → kind_number (kind_of k) ≡ k
-kind-is false k h = never (cc)
-kind-is true k h = go (eqb k 2) refl (eqb k 1) refl h
-  where
-    go : (p : Bool) → eqb k 2 ≡ p → (q : Bool) → eqb k 1 ≡ q → (q || p) ≡ true → kind_number (cond p Second First) ≡ k
-    go true e q f h = sym (eqb-true k 2 e)
-    go false e true f h = sym (eqb-true k 1 f)
-    go false e false f h = never (cc)
+pub board_is : (head : List ℕ) → length head ≡ 5
+    → board_in head ≡ record { window = pair_of (at head 1) (at head 2); first = at head 3; second = at head 4 }
+board_is head long = ap board_in (whole 5 head long) ∙ rw (pair_is, byte-is (at head 3), byte-is (at head 4))
 
-module _ (bytes : List ℕ) (enough : size_of board_form ≤ length bytes) where
-  pub board-is : board_in (take (size_of board_form) bytes)
-      ≡ record { window = pair_of (at bytes 1) (at bytes 2); first = at bytes 3; second = at bytes 4 }
-  board-is = rw (upto-part 5 0 bytes enough, pair_is, byte-is (at bytes 3), byte-is (at bytes 4))
+module _ (row : List ℕ) (long : length row ≡ 8) where
+  pub slice_is : is_slice row ≡ eqb (at row 0) 18 && (eqb (at row 2) 1 || eqb (at row 2) 2)
+  slice_is = ap is_slice (whole 8 row long) ∙ rw (byte-is, and-true (eqb (at row 0) 18))
 
-module _ (bytes : List ℕ) (from : ℕ) (fits : from + size_of slice_form ≤ length bytes) where
-  abbrev row : List ℕ
-  row = take (size_of slice_form) (drop from bytes)
+  pub there_is : (tick kind core : ℕ) → is_there tick kind core row ≡
+      eqb (at row 2) kind && (eqb (at row 3) core && (leb (pair_of (at row 4) (at row 5)) tick
+      && ltb tick (pair_of (at row 4) (at row 5) + pair_of (at row 6) (at row 7))))
+  there_is tick kind core =
+      ap (is_there tick kind core) (whole 8 row long) ∙
+      rw (byte-is (at row 2), byte-is (at row 3), pair_is (at row 4) (at row 5), pair_is (at row 6) (at row 7))
 
-  pub slice_is : is_slice row ≡ eqb (at bytes from) 18 && (eqb (at bytes (from + 2)) 1 || eqb (at bytes (from + 2)) 2)
-  slice_is = rw (upto-part 8 from bytes fits, add-zero, byte-is) (and-true (eqb (at bytes from) 18) _)
-
-  pub slice-job : (slice_of row).job ≡ at bytes (from + 1)
-  slice-job = rw (upto-part 8 from bytes fits, byte-is)
-
-  pub slice_at : (tick kind core : ℕ) → is_slice row ≡ true → is_at tick kind core (slice_of row) ≡
-      eqb (at bytes (from + 2)) kind && (eqb (at bytes (from + 3)) core && (leb (pair_of (at bytes (from + 4)) (at bytes (from + 5))) tick
-      && ltb tick (pair_of (at bytes (from + 4)) (at bytes (from + 5)) + pair_of (at bytes (from + 6)) (at bytes (from + 7)))))
-  slice_at tick kind core is =
-      rw (
-        upto-part 8 from bytes fits,
-        byte-is (at bytes (from + 2)),
-        byte-is (at bytes (from + 3)),
-        pair_is (at bytes (from + 4)) (at bytes (from + 5)),
-        pair_is (at bytes (from + 6)) (at bytes (from + 7)),
-        kind-is (eqb (at bytes from) 18) (at bytes (from + 2)) (sym slice_is ∙ is),
-      )
+  pub job-is : field slice_form 0 row ≡ at row 1
+  job-is = ap (field slice_form 0) (whole 8 row long) ∙ byte-is (at row 1)

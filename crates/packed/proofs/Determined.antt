@@ -3,11 +3,7 @@
 --   pack_table ↦ pack-table-once, the answer with the lent bytes after the call
 -- Assumes nothing.
 use mathlib.Core.Path.{◌≡◌, sym, ◌∙◌}
-use Rattle.model.proofs.Determined.{Determines, said-once}
-use Rattle.text.specs.Output.{says_written}
-use Rattle.text.proofs.Determined.{written_of, written_back}
-use Rattle.handler.specs.Running.{says_named}
-use Rattle.handler.proofs.Determined.{named_of, named_back}
+use Rattle.model.proofs.Determined.{Determines, result-once}
 use Rattle.packed.proofs.packed_tick
 use Rattle.packed.specs.contracts.packed_tick as packed_tick_contract
 use Rattle.packed.proofs.pack_table
@@ -15,10 +11,10 @@ use Rattle.packed.specs.contracts.pack_table as pack_table_contract
 
 pub packed-tick-once : Determines packed_tick_contract.ended packed_tick.Reads.Learnt
 packed-tick-once κs args r s p q =
-    let answer : r.0 ≡ s.0 = said-once says_named named_of named_back _ r.0 s.0 p q in
+    let answer : r.0 ≡ s.0 = result-once _ r.0 s.0 p q in
     λ i. (answer i, r.1)
 
 pub pack-table-once : Determines pack_table_contract.ended pack_table.Reads.Learnt
 pack-table-once κs args r s p q =
-    let answer : r.0 ≡ s.0 = said-once says_written written_of written_back _ r.0 s.0 p.says q.says in
+    let answer : r.0 ≡ s.0 = result-once _ r.0 s.0 p.says q.says in
     λ i. (answer i, (tt, (tt, ((p.bytes ∙ sym q.bytes) i, tt))))

@@ -6,7 +6,7 @@
 --   pack-then-ask   on the bytes of a table that can be run the answer is the handler's on the table, for every tick, kind and core
 --   packs-then-ask  the same of what packing promises: of the bytes that it counts
 -- Assumes nothing.
-use mathlib.Core.Bool.{Bool, true, false, cond, ◌||◌}
+use mathlib.Core.Bool.{Bool, true, false, cond, not, ◌||◌}
 use mathlib.Core.List.{List, [], ◌∷◌}
 use mathlib.Core.Path.{◌≡◌, refl, sym, ap, ◌∙◌}
 use Prim.Native.Nat.{ℕ, zero, suc, ◌+◌, ◌-◌, ◌*◌, ◌%◌, ◌≤◌, ◌<◌}
@@ -15,8 +15,12 @@ use borrow.Author.Tests.{eq-eqb}
 use lib.Dec.{eqb, ltb}
 use lib.ListN.{length, take, drop, get_or}
 use lib.Seq.{drop-drop, take-append_seam, ext_get_or}
+use Rattle.std.specs.Prelude.{Option, Ok}
+use Rattle.rows.specs.Lists.{lowest}
+use Rattle.rows.specs.Upto.{upto}
+use Rattle.rows.proofs.Lowest.{none-lowest}
 use Rattle.rows.proofs.Never.{never}
-use Rattle.rows.proofs.Upto.{upto-length, upto-at}
+use Rattle.rows.proofs.Upto.{upto-length, upto-at, upto_all}
 use Rattle.model.specs.Packed.{kind_number, kind_of, slices_in}
 use Rattle.model.specs.Refusal.{Answer, given, refused, and_then}
 use Rattle.model.specs.declared.Board.{Board}
@@ -26,13 +30,11 @@ use Rattle.model.specs.declared.Slice.{Slice}
 use Rattle.text.specs.Hex.{number_from, number_in}
 use Rattle.text.specs.Output.{slice_record}
 use Rattle.text.specs.Records.{board_form, slice_form, size_of, board_in}
-use Rattle.text.specs.declared.Written.TheVariants.{Bytes}
 use Rattle.text.proofs.RoundTrip.{in_bytes-back}
 use Rattle.handler.specs.Check.{check_of}
-use Rattle.handler.specs.Running.{Running, is_beyond, running_in, asked_of}
+use Rattle.handler.specs.Running.{is_beyond, running_in, asked_of}
 use Rattle.packed.specs.Packed.{records_of, packed_of, packed_most, row_bytes, is_slice, count_in, is_packed, slice_of, rows_in, packed_asked}
 use Rattle.packed.specs.Packed.{laid, Packs}
-use Rattle.packed.proofs.Looked.{slices-are}
 
 -- ---- a record is read back
 kind-back : (k : Kind)
@@ -53,6 +55,13 @@ records-at (s ∷ rows) d zero there = refl
 records-at (s ∷ rows) d (suc i) there =
     let next : 8 * suc i ≡ 8 + 8 * i = omega arith in
     rw (next, ← drop-drop (8 * i) 8 (records_of (s ∷ rows))) (records-at rows d i (omega arith))
+
+slices-are : (bytes : List ℕ) → ((i : ℕ) → i < count_in bytes → is_slice (row_bytes bytes i) ≡ true)
+    → eqb (lowest (λ (i : ℕ). not (is_slice (row_bytes bytes i))) (upto (count_in bytes) (λ i. i))) (count_in bytes) ≡ true
+slices-are bytes each =
+    let n = count_in bytes in
+    let none = upto_all (λ (i : ℕ). not (is_slice (row_bytes bytes i)) ≡ false) n (λ i. i) (λ i l. rw (each i l)) in
+    eq-eqb _ _ (none-lowest _ (upto n (λ i. i)) none ∙ upto-length n (λ i. i))
 
 -- ---- the bytes of a board and rows
 module _ (board : Board) (rows : List Slice) where
@@ -95,7 +104,7 @@ module _ (board : Board) (rows : List Slice) where
       )
 
   module _ (tick kind core : ℕ) where
-    abbrev by : Board → List Slice → Answer Running
+    abbrev by : Board → List Slice → Answer (Option ℕ)
     by b rs = cond (is_beyond b tick kind core) (refused 11 0) (given (running_in tick kind core rs))
 
     pub packed-back : packed_asked bytes tick kind core
@@ -117,7 +126,7 @@ module _ (board : Board) (xs : List ℕ) where
       → packed_asked (packed_of board rows) tick kind core ≡ asked_of board xs tick kind core
   pack-then-ask checked tick kind core = rw checked (packed-back board rows tick kind core)
 
-  pub packs-then-ask : (before after : List ℕ) (count : ℕ) → Packs board xs before after (Bytes count) → (tick kind core : ℕ)
+  pub packs-then-ask : (before after : List ℕ) (count : ℕ) → Packs board xs before after (Ok count) → (tick kind core : ℕ)
       → packed_asked (take count after) tick kind core ≡ asked_of board xs tick kind core
   packs-then-ask before after count packs tick kind core = go (check_of board xs) refl packs.says packs.bytes
     where

@@ -1,22 +1,21 @@
 -- Packed bytes that are stored one behind the other, and what packing owes at each of its ends.
 --   rows_more       one more record of the rows
---   packed-stored   the board's record, then those of the rows
---   table-size      how many bytes a table takes
---   checked-board   the board of a table that can be run has passed its checks
---   pack-short, pack-all   bytes that are too few for a table that can be run, and bytes that are not
+--   board_fits      the board of a table that can be run fits the bytes that its record has for it
+--   pack_short, pack_all   bytes that are too few for a table that can be run, and bytes that are not
 -- Assumes nothing.
 use mathlib.Core.Bool.{true, false}
-use mathlib.Core.List.{List, ◌∷◌}
-use mathlib.Core.Path.{◌≡◌, sym, ◌∙◌}
-use Prim.Native.Nat.{ℕ, ◌+◌, ◌*◌, ◌≤◌, ◌<◌}
-use native.Mathlib.Nat.{zero-add}
+use mathlib.Core.List.{List, [], ◌∷◌, ◌++◌, append_assoc, append-nil}
+use mathlib.Core.Path.{◌≡◌, refl, sym}
+use Prim.Native.Nat.{ℕ, ◌+◌, ◌-◌, ◌*◌, ◌<◌}
 use native.Mathlib.Omega.{arith}
-use borrow.Author.Tests.{lt-ltb, le-ltb}
+use borrow.Rule.Slice.PartMut.{put_mid}
 use lib.Dec.{ltb}
-use lib.ListN.{length}
-use lib.Seq.{sets, sets-eq}
-use Rattle.rows.specs.Upto.{at}
-use Rattle.rows.proofs.Upto.{upto-length}
+use lib.ListN.{length, drop, length-append}
+use lib.Seq.{drop-drop, take_at, drop_at}
+use Rattle.std.specs.Prelude.{Ok, Err}
+use Rattle.rows.specs.Lists.{front}
+use Rattle.rows.specs.Upto.{upto, at}
+use Rattle.rows.proofs.Upto.{upto-length, upto-more}
 use Rattle.model.specs.Packed.{slice_in, slices_in}
 use Rattle.model.specs.Refusal.{given}
 use Rattle.model.specs.declared.Board.{Board}
@@ -25,41 +24,53 @@ use Rattle.model.specs.declared.Slice.{Slice}
 use Rattle.legal.proofs.CheckByCheck.{Passed}
 use Rattle.text.specs.Output.{slice_record}
 use Rattle.text.specs.Records.{board_form, slice_form, size_of}
-use Rattle.text.specs.declared.Written.TheVariants.{Bytes, Refused}
-use Rattle.text.proofs.Stores.{sets-append}
 use Rattle.handler.specs.Check.{check_of}
 use Rattle.handler.proofs.Judged.{passes-exactly}
 use Rattle.packed.specs.Packed.{board_record, records_of, packed_of, Packs}
 use Rattle.packed.proofs.Same.{packed-size}
 
-module _ (t : List ℕ) (to : ℕ) where
-  pub rows_more : (s : Slice) (rows : List Slice)
-      → sets (sets t to (slice_record s)) (to + size_of slice_form) (records_of rows) ≡ sets t to (records_of (s ∷ rows))
-  rows_more s rows = sym (sets-append t to (slice_record s) (records_of rows))
+records-append : (rows more : List Slice) → records_of (rows ++ more) ≡ records_of rows ++ records_of more
+records-append [] more = refl
+records-append (s ∷ rows) more = rw (records-append rows more) (sym (append_assoc (slice_record s) (records_of rows) (records_of more)))
 
-module _ (board : Board) (rows : List Slice) where
-  pub packed-stored : (t : List ℕ) → sets (sets t 0 (board_record board)) (size_of board_form) (records_of rows) ≡ sets t 0 (packed_of board rows)
-  packed-stored t = sym (sets-append t 0 (board_record board) (records_of rows))
+-- one record more
+pub rows_more : (n : ℕ) (column : List ℕ)
+    → records_of (slices_in (n + 1) column) ≡ records_of (slices_in n column) ++ slice_record (slice_in (at column n))
+rows_more n column =
+    let f : ℕ → Slice = λ i. slice_in (at column i) in
+    rw (upto-more n f, records-append (upto n f) (f n ∷ []), append-nil (slice_record (f n)))
+
+-- a head and what stands behind it, at the front of a table
+stored : (before head behind : List ℕ) (k : ℕ) → length head ≡ 5 → length behind ≡ k
+    → put_mid 5 (5 + k - 5) (head ++ drop 5 before) behind ≡ front (head ++ behind) before
+stored before head behind k five long =
+    let all : length (head ++ behind) ≡ 5 + (5 + k - 5) = omega (arith, length-append head behind) in
+    rw (take_at head (drop 5 before) 5 five, drop_at head (drop 5 before) 5 five, drop-drop (5 + k - 5) 5 before, all)
+    (sym (append_assoc head behind (drop (5 + (5 + k - 5)) before)))
 
 module _ (board : Board) (xs : List ℕ) where
-  pub checked-board : given tt ≡ check_of board xs → Passed board
-  checked-board is = ((passes-exactly xs board).0 (sym is)).0
+  abbrev rows : List Slice
+  rows = slices_in (length xs) xs
 
-  abbrev new : List ℕ
-  new = packed_of board (slices_in (length xs) xs)
+  table-size : length (packed_of board rows) ≡ size_of board_form + size_of slice_form * length xs
+  table-size = omega (arith, packed-size board rows, upto-length (length xs) (λ i. slice_in (at xs i)))
 
-  pub table-size : length new ≡ size_of board_form + size_of slice_form * length xs
-  table-size = omega (arith, packed-size board (slices_in (length xs) xs), upto-length (length xs) (λ i. slice_in (at xs i)))
+  module _ (checked : given tt ≡ check_of board xs) where
+    pub board_fits : (board.window < 65536) × (board.first < 256) × (board.second < 256)
+    board_fits =
+        let passed : Passed board = ((passes-exactly xs board).0 (sym checked)).0 in
+        (omega arith, omega arith, omega arith)
 
-  module _ (before : List ℕ) (is : given tt ≡ check_of board xs) where
-    pub pack-short : length before < size_of board_form + size_of slice_form * length xs → Packs board xs before before (Refused TooShort)
-    pack-short few =
-        let tested : ltb (length before) (length new) ≡ true = lt-ltb (length before) (length new) (rw table-size few) in
-        record { says = rw (← is, tested); bytes = rw (← is, tested) }
+    module _ (before : List ℕ) where
+      pub pack_short : true ≡ ltb (length before) (size_of board_form + size_of slice_form * length xs) → Packs board xs before before (Err TooShort)
+      pack_short few = record { says = rw (← checked, table-size, ← few); bytes = rw (← checked, table-size, ← few) }
 
-    pub pack-all : size_of board_form + size_of slice_form * length xs ≤ length before
-        → Packs board xs before (sets before 0 new) (Bytes (size_of board_form + size_of slice_form * length xs))
-    pack-all fits =
-        let room : length new ≤ length before = rw table-size fits in
-        let tested : ltb (length before) (length new) ≡ false = le-ltb _ _ room in
-        record { says = rw (← is, tested, table-size); bytes = rw (← is, tested) (sets-eq new before 0 (rw zero-add room) ∙ rw zero-add) }
+      pub pack_all : (head behind : List ℕ) → head ≡ board_record board → behind ≡ records_of rows
+          → false ≡ ltb (length before) (size_of board_form + size_of slice_form * length xs)
+          → Packs board xs before (put_mid 5 (5 + 8 * length xs - 5) (head ++ drop 5 before) behind) (Ok (5 + 8 * length xs))
+      pack_all head behind is are fits =
+          let size : length (records_of rows) ≡ 8 * length xs = omega (arith, table-size) in
+          record {
+            says = rw (← checked, table-size, ← fits);
+            bytes = rw (← checked, table-size, ← fits, is, are) (stored before (board_record board) (records_of rows) (8 * length xs) refl size);
+          }

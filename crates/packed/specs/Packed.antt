@@ -15,18 +15,18 @@
 --   laid           lent bytes with new ones at their front where an answer gives a count; where it is a refusal they stay
 --   Packs          what packing promises: the answer, and every lent byte
 -- Assumes nothing.
-use Rattle.std.specs.Prelude.{Bool, cond, not, ◌&&◌, ◌||◌, List, [], ◌∷◌, ◌++◌, ◌≡◌, ℕ, ◌+◌, ◌-◌, ◌*◌, ◌/◌, ◌%◌, eqb, ltb, length, take, drop}
+use Rattle.std.specs.Prelude.{Bool, cond, not, ◌&&◌, ◌||◌, List, [], ◌∷◌, ◌++◌, ◌≡◌, ℕ, ◌+◌, ◌-◌, ◌*◌, ◌/◌, ◌%◌, eqb, ltb, length, take, drop, Option, Result}
 use Rattle.rows.specs.Lists.{lowest, front}
 use Rattle.rows.specs.Upto.{upto}
 use Rattle.model.specs.Packed.{kind_of, slices_in}
-use Rattle.model.specs.Refusal.{Answer, given, refused, and_then}
+use Rattle.model.specs.Refusal.{Answer, given, refused, says, and_then}
 use Rattle.model.specs.declared.Board.{Board}
+use Rattle.model.specs.declared.Refusal.{Refusal}
 use Rattle.model.specs.declared.Slice.{Slice}
-use Rattle.text.specs.Output.{slice_record, says_written}
+use Rattle.text.specs.Output.{slice_record}
 use Rattle.text.specs.Records.{board_form, slice_form, size_of, record_of, is_a, field, board_in}
-use Rattle.text.specs.declared.Written.{Written}
 use Rattle.handler.specs.Check.{check_of}
-use Rattle.handler.specs.Running.{Running, is_beyond, running_in}
+use Rattle.handler.specs.Running.{is_beyond, running_in}
 
 abbrev pub board_record : Board → List ℕ
 board_record b = record_of board_form (b.window ∷ b.first ∷ b.second ∷ [])
@@ -72,7 +72,7 @@ abbrev pub rows_in : List ℕ → List Slice
 rows_in bytes = upto (count_in bytes) (λ i. slice_of (row_bytes bytes i))
 
 -- The board and the rows are those of a table that was checked before it was packed: they are not checked again.
-abbrev pub packed_asked : List ℕ → (tick kind core : ℕ) → Answer Running
+abbrev pub packed_asked : List ℕ → (tick kind core : ℕ) → Answer (Option ℕ)
 packed_asked bytes tick kind core =
     cond (is_packed bytes)
     (cond (is_beyond (board_in (take (size_of board_form) bytes)) tick kind core) (refused 11 0) (given (running_in tick kind core (rows_in bytes))))
@@ -88,6 +88,6 @@ abbrev pub laid : Answer ℕ → (new old : List ℕ) → List ℕ
 laid (given n) new old = front new old
 laid (refused number place) new old = old
 
-pub record Packs (board : Board) (xs before after : List ℕ) (r : Written) : Type 0 where
-  pub says : says_written r ≡ packs board xs before
+pub record Packs (board : Board) (xs before after : List ℕ) (r : Result ℕ Refusal) : Type 0 where
+  pub says : says r ≡ packs board xs before
   pub bytes : after ≡ laid (packs board xs before) (packed_of board (slices_in (length xs) xs)) before

@@ -1,12 +1,13 @@
--- `packed::look_over` meets its contract: the invariant is that of Looked.antt, and the measure is the rows that are left. Assumes nothing.
-use Prim.Native.Nat.{◌≤◌}
-use Rattle.handler.specs.Running.{says_named}
-use Rattle.packed.specs.Packed.{count_in}
-use Rattle.packed.proofs.Looked.{Looked}
+-- `packed::look_over` meets its contract. The invariant: what all rows say is what those that are left say, or else the answer so far. Assumes nothing.
+use mathlib.Core.Path.{◌≡◌}
+use Rattle.std.specs.List.{list_all}
+use Rattle.std.specs.Option.{option_or}
+use Rattle.std.specs.Slice.Iter.{iter_rest}
+use Rattle.packed.specs.Packed.{is_slice}
+use Rattle.packed.specs.Asking.{job_of}
 use Rattle.packed.proofs.look_over.Given as goal
 
-abbrev pub invariant-loop-i : goal.invariant-loop-i
-invariant-loop-i l = (l.i ≤ count_in l.table) × Looked l.table l.tick l.kind l.core l.i (says_named l.answer)
-
-abbrev pub decreases-loop-i : goal.decreases-loop-i
-decreases-loop-i l = l.i
+abbrev pub invariant-loop-row : goal.invariant-loop-row
+invariant-loop-row l =
+    (list_all is_slice l.rows ≡ list_all is_slice (iter_rest l.row-iterator.iter))
+    × (job_of l.tick l.kind l.core l.rows ≡ option_or (job_of l.tick l.kind l.core (iter_rest l.row-iterator.iter)) l.answer)

@@ -1,15 +1,20 @@
--- `packed::packed_tick` meets its contract: bytes with no head are refused, and of the others the rows are asked. Assumes nothing.
-use mathlib.Core.Path.{sym, ◌∙◌}
-use Rattle.packed.proofs.Looked.{asked-not, asked-rows}
+-- `packed::packed_tick` meets its contract: where the rows are refused, so are the bytes, and else the board is asked. Assumes nothing.
+use Rattle.std.proofs.lemmas.Result.{err_from_is_err_and}
+use Rattle.packed.proofs.Parted.{asked_none, asked_beyond, asked_inside}
 use Rattle.packed.proofs.packed_tick.Goals as goal
 
-pub returns-then-not-is_headed : goal.returns-then-not-is_headed
-returns-then-not-is_headed c =
+pub returns-in_err-answer : goal.returns-in_err-answer
+returns-in_err-answer c =
     let a = c.args in
-    asked-not a.table.now a.tick a.kind a.core (sym c.is_headed.ensures ∙ c.if-not-is_headed.true)
+    let p = err_from_is_err_and c.from_residual.result c.from_residual.ensures.1 in
+    rw (p.1, p.2) (asked_none a.tick a.kind a.core a.table.now _ _ c.in-Some.ensures _ _ c.in_err-answer.ensures)
+
+pub returns-then-is_beyond : goal.returns-then-is_beyond
+returns-then-is_beyond c =
+    let a = c.args in
+    asked_beyond a.tick a.kind a.core a.table.now _ _ c.in-Some.ensures _ c.board_in.ensures _ c.in_ok-answer.ensures c.if-is_beyond.ensures
 
 pub returns : goal.returns
 returns c =
     let a = c.args in
-    c.look_over.ensures
-    ∙ asked-rows a.table.now a.tick a.kind a.core (sym c.is_headed.ensures ∙ c.if-not-is_headed.false)
+    asked_inside a.tick a.kind a.core a.table.now _ _ c.in-Some.ensures _ c.board_in.ensures _ c.in_ok-answer.ensures c.if-is_beyond.ensures
