@@ -12,6 +12,7 @@ use native.Mathlib.Omega.{arith}
 use borrow.Author.Tests.{ltb-true, ltb-false}
 use lib.Dec.{ltb}
 use lib.ListN.{length, drop}
+use Rattle.std.specs.Prelude.{Some, Ok}
 use Rattle.rows.proofs.Never.{never}
 use Rattle.model.specs.Limits.{jobs_most, slices_most}
 use Rattle.model.specs.Refusal.{Answer, given, refused, says_refusal, and_then}
@@ -20,9 +21,7 @@ use Rattle.columns.specs.Plan.{Plan}
 use Rattle.planner.proofs.Causes.{plan-listed}
 use Rattle.planner.proofs.Demands.{listed_small}
 use Rattle.planner.proofs.PlanMoves.{plan-never-7}
-use Rattle.text.specs.Hex.{some}
 use Rattle.text.specs.Output.{Writes}
-use Rattle.text.specs.declared.Written.TheVariants.{Bytes}
 use Rattle.reader.specs.Input.{Input, input_of}
 use Rattle.clampfern.specs.Answer.{planned, lines_for, answer_text, Entered}
 use Rattle.clampfern.specs.Listed.{last_line, TextListed, over, digits, unknown, job-first, board-later, empty, many, of-set}
@@ -76,19 +75,19 @@ module _ (text : List ℕ) where
           let b : q ≡ place = cc in
           rw (a, b) at (text-listed text m q none_read)
 
-  pub answer-said : said_of (answer_text text) ≡ some answer_of
+  pub answer-said : said_of (answer_text text) ≡ Some answer_of
   answer-said = read (input_of text) refl
     where
-      refusal : (number place : ℕ) → answer_of ≡ refused number place → said_of (lines_for (refused number place)) ≡ some (refused number place)
+      refusal : (number place : ℕ) → answer_of ≡ refused number place → said_of (lines_for (refused number place)) ≡ Some (refused number place)
       refusal number place is =
           let small = text-listed-small (answer-listed number place is) in
           refusal-said number place (omega arith) (omega arith)
 
-      set-planned : (input : Input) → input_of text ≡ given input → (y : Answer Plan) → planned input ≡ y → said_of (lines_for y) ≡ some y
+      set-planned : (input : Input) → input_of text ≡ given input → (y : Answer Plan) → planned input ≡ y → said_of (lines_for y) ≡ Some y
       set-planned input set (given p) is = plan-said input.board input.jobs jobs_most slices_most is
       set-planned input set (refused number place) is = refusal number place (rw set is)
 
-      read : (x : Answer Input) → input_of text ≡ x → said_of (lines_for (and_then x planned)) ≡ some (and_then x planned)
+      read : (x : Answer Input) → input_of text ≡ x → said_of (lines_for (and_then x planned)) ≡ Some (and_then x planned)
       read (given input) set = set-planned input set (planned input) refl
       read (refused number place) is = refusal number place (rw is)
 
@@ -112,7 +111,7 @@ entry-cases {asked} {before} {after} {count} p = go (ltb (length before) (length
     go true t is now = inl (record { few = ltb-true _ _ t; zero = is; same = now })
     go false t is now = inr (record { enough = ltb-false _ _ t; all = is; front = now })
 
-pub writes-put : {short : Refusal} {before after : List ℕ} (lines : List ℕ) {count : ℕ} → Writes short before after lines (Bytes count)
+pub writes-put : {short : Refusal} {before after : List ℕ} (lines : List ℕ) {count : ℕ} → Writes short before after lines (Ok count)
     → (count ≡ length lines) × (after ≡ lines ++ drop (length lines) before)
 writes-put {short} {before} {after} lines {count} w = go (ltb (length before) (length lines)) w.says w.text
   where

@@ -10,6 +10,7 @@ use Prim.Native.Nat.{ℕ, zero, suc, ◌+◌, ◌≤◌, ◌<◌}
 use native.Mathlib.Omega.{arith}
 use lib.Dec.{eqb, leb, ltb}
 use lib.ListN.{length}
+use Rattle.std.specs.Prelude.{Option, None, Some}
 use Rattle.rows.specs.Lists.{All, lowest}
 use Rattle.rows.specs.Upto.{upto, at}
 use Rattle.model.specs.Limits.{window_most, cores_most, text_most}
@@ -19,8 +20,8 @@ use Rattle.model.specs.declared.Board.{Board}
 use Rattle.model.specs.declared.Slice.{Slice}
 use Rattle.legal.specs.Legal.{outside, on_board}
 use Rattle.handler.specs.Check.{is_bad, collision_of, check_of}
-use Rattle.handler.specs.Running.{is_beyond, is_at, Running, idle, runs, running_in, asked_of}
-use Rattle.text.specs.Hex.{Maybe, none, some, bytes_of, lines_of}
+use Rattle.handler.specs.Running.{is_beyond, is_at, running_in, asked_of}
+use Rattle.text.specs.Hex.{bytes_of, lines_of}
 use Rattle.kernel.specs.Handed.{Entry, of-board, of-counts, of-share, of-slice, entry_of, record_says, bytes_say, form_says, has_job, as_board, Counts, as_counts, in_place, slices_from, counts_from, handed_from, handed_of, column_of, tick_of}
 use Rattle.clampfern.specs.Tick.{idle_code, refusal_base, code_of}
 
@@ -47,13 +48,13 @@ ten i = refuses 10 i (omega arith) (omega arith)
 form-listed : (i : ℕ) (line : List ℕ) → Listed (form_says i line)
 form-listed i line = spelled (bytes_of line)
   where
-    said : (m : Maybe Entry) → Listed (record_says i m)
-    said none = nine i
-    said (some e) = gives e
+    said : (m : Option Entry) → Listed (record_says i m)
+    said None = nine i
+    said (Some e) = gives e
 
-    spelled : (m : Maybe (List ℕ)) → Listed (bytes_say i m)
-    spelled none = refuses 8 i (omega arith) (omega arith)
-    spelled (some r) = said (entry_of r)
+    spelled : (m : Option (List ℕ)) → Listed (bytes_say i m)
+    spelled None = refuses 8 i (omega arith) (omega arith)
+    spelled (Some r) = said (entry_of r)
 
 board-listed : (i : ℕ) (e : Entry) → Listed (as_board i e)
 board-listed i (of-board b) = gives b
@@ -105,16 +106,16 @@ check-listed board xs =
     (listed-cond (ltb (collision_of xs) (length xs)) (refuses 13 _ (omega arith) (omega arith)) (gives tt))))
 
 -- ---- the answers
-pub data Coded : Answer Running → Type 0 where
-  no-job : Coded (given idle)
-  job : (j : ℕ) → j < idle_code → Coded (given (runs j))
+pub data Coded : Answer (Option ℕ) → Type 0 where
+  no-job : Coded (given None)
+  job : (j : ℕ) → j < idle_code → Coded (given (Some j))
   refusal : (number place : ℕ) → 1 ≤ number → number ≤ 13 → Coded (refused number place)
 
-coded-then : {A : Type 0} {x : Answer A} {f : A → Answer Running} → Listed x → ((a : A) → Coded (f a)) → Coded (and_then x f)
+coded-then : {A : Type 0} {x : Answer A} {f : A → Answer (Option ℕ)} → Listed x → ((a : A) → Coded (f a)) → Coded (and_then x f)
 coded-then (gives a) then = then a
 coded-then (refuses number place above most) then = refusal number place above most
 
-coded-cond : (t : Bool) {x y : Answer Running} → Coded x → Coded y → Coded (cond t x y)
+coded-cond : (t : Bool) {x y : Answer (Option ℕ)} → Coded x → Coded y → Coded (cond t x y)
 coded-cond true first second = first
 coded-cond false first second = second
 
@@ -124,7 +125,7 @@ unfolding running_in
 rows-coded tick kind core [] bytes = no-job
 rows-coded tick kind core (s ∷ rows) bytes = go (is_at tick kind core s) (rows-coded tick kind core rows bytes.1)
   where
-    go : (t : Bool) → Coded (given (running_in tick kind core rows)) → Coded (given (cond t (runs s.job) (running_in tick kind core rows)))
+    go : (t : Bool) → Coded (given (running_in tick kind core rows)) → Coded (given (cond t (Some s.job) (running_in tick kind core rows)))
     go true rest = job s.job bytes.0
     go false rest = rest
 
@@ -143,17 +144,17 @@ pub tick-coded : (lines : List ℕ) (tick kind core : ℕ) → Coded (tick_of li
 tick-coded lines tick kind core = coded-then (handed-listed lines) (λ h. asked-coded h.board (column_of h) tick kind core)
 
 -- ---- the number tells the answer
-pub job-code : {a : Answer Running} → Coded a → (j : ℕ) → j < idle_code → code_of a ≡ j → a ≡ given (runs j)
+pub job-code : {a : Answer (Option ℕ)} → Coded a → (j : ℕ) → j < idle_code → code_of a ≡ j → a ≡ given (Some j)
 job-code no-job j below is = absurd (omega arith)
-job-code (job k small) j below is = ap (λ (n : ℕ). given (runs n)) is
+job-code (job k small) j below is = ap (λ (n : ℕ). given (Some n)) is
 job-code (refusal number place above most) j below is = absurd (omega arith)
 
-pub idle_code-only : {a : Answer Running} → Coded a → code_of a ≡ idle_code → a ≡ given idle
+pub idle_code-only : {a : Answer (Option ℕ)} → Coded a → code_of a ≡ idle_code → a ≡ given None
 idle_code-only no-job is = refl
 idle_code-only (job k small) is = absurd (omega arith)
 idle_code-only (refusal number place above most) is = absurd (omega arith)
 
-pub refusal-code : {a : Answer Running} → Coded a → (number : ℕ) → code_of a ≡ refusal_base + number
+pub refusal-code : {a : Answer (Option ℕ)} → Coded a → (number : ℕ) → code_of a ≡ refusal_base + number
     → (1 ≤ number) × (number ≤ 13) × ((place : ℕ) × (a ≡ refused number place))
 refusal-code no-job number is = absurd (omega arith)
 refusal-code (job k small) number is = absurd (omega arith)

@@ -14,6 +14,7 @@ use Prim.Native.Nat.{ℕ, ◌+◌, ◌-◌, ◌*◌, ◌≤◌, ◌<◌}
 use native.Mathlib.Omega.{arith}
 use lib.ListN.{length, take, drop, get_or}
 use lib.Seq.{take-append_seam, drop-append_seam}
+use Rattle.std.specs.Prelude.{Option, None, Some, Ok}
 use Rattle.rows.proofs.Lists.{all-at, pairs-at}
 use Rattle.model.specs.Board.{room_of}
 use Rattle.model.specs.Empty.{no_job, no_slice}
@@ -44,9 +45,7 @@ use Rattle.planner.specs.Promise.{GoodPlan}
 use Rattle.planner.proofs.Causes.{plan-listed, listed-plan, listed-cause}
 use Rattle.planner.proofs.Lent.{plan-room}
 use Rattle.planner.proofs.PlanKept.{plan-shares, plan-kept}
-use Rattle.text.specs.Hex.{Maybe, none, some}
 use Rattle.text.specs.Output.{answer_most, Writes}
-use Rattle.text.specs.declared.Written.TheVariants.{Bytes}
 use Rattle.reader.specs.Input.{Input, input_of}
 use Rattle.clampfern.specs.Answer.{planned, answer_text, Entered, Answered}
 use Rattle.clampfern.specs.Listed.{TextListed, over, digits, unknown, job-first, board-later, empty, many, of-set}
@@ -79,7 +78,7 @@ module _ {asked before after : List ℕ} {count : ℕ} (p : Entered asked before
       (λ put. rw (put.front, put.all) (take-append_seam (answer_text asked) _)) (entry-cases p)
 
 -- The same of `plan_text`, which gives a count only where the lines fit.
-pub text-answer : (asked : List ℕ) {before after : List ℕ} {count : ℕ} → Writes TooShort before after (answer_text asked) (Bytes count)
+pub text-answer : (asked : List ℕ) {before after : List ℕ} {count : ℕ} → Writes TooShort before after (answer_text asked) (Ok count)
     → take count after ≡ answer_text asked
 text-answer asked w = let put = writes-put (answer_text asked) w in rw (put.1, put.0) (take-append_seam (answer_text asked) _)
 
@@ -97,20 +96,20 @@ Describes asked board js = input_of asked ≡ given (record { board = board; job
 
 -- What bytes may say to a text: a plan with a share for each job of the set that the text describes, or a refusal by number and place, with its
 -- cause; never nothing.
-abbrev pub PlannedOrRefused : List ℕ → Maybe (Answer Plan) → Type 0
-PlannedOrRefused asked none = ⊥
-PlannedOrRefused asked (some (given p)) = (board : Board) × (js : List Job) × Describes asked board js × (length p.shares ≡ length js)
-PlannedOrRefused asked (some (refused number place)) = TextListed asked number place
+abbrev pub PlannedOrRefused : List ℕ → Option (Answer Plan) → Type 0
+PlannedOrRefused asked None = ⊥
+PlannedOrRefused asked (Some (given p)) = (board : Board) × (js : List Job) × Describes asked board js × (length p.shares ≡ length js)
+PlannedOrRefused asked (Some (refused number place)) = TextListed asked number place
 
 module _ (asked : List ℕ) {bytes : List ℕ} (answer : bytes ≡ answer_text asked) where
-  said : said_of bytes ≡ some (answer_of asked)
+  said : said_of bytes ≡ Some (answer_of asked)
   said = rw answer (answer-said asked)
 
   -- Any text at all is planned or refused by number and place, and says so.
   pub any-text-answered : PlannedOrRefused asked (said_of bytes)
   any-text-answered = rw said (go (input_of asked) refl)
     where
-      of : (input : Input) → input_of asked ≡ given input → (y : Answer Plan) → planned input ≡ y → PlannedOrRefused asked (some y)
+      of : (input : Input) → input_of asked ≡ given input → (y : Answer Plan) → planned input ≡ y → PlannedOrRefused asked (Some y)
       of input set (given p) is = (
         input.board,
         input.jobs,
@@ -120,29 +119,29 @@ module _ (asked : List ℕ) {bytes : List ℕ} (answer : bytes ≡ answer_text a
       )
       of input set (refused number place) is = answer-listed asked number place (rw set is)
 
-      go : (x : Answer Input) → input_of asked ≡ x → PlannedOrRefused asked (some (and_then x planned))
+      go : (x : Answer Input) → input_of asked ≡ x → PlannedOrRefused asked (Some (and_then x planned))
       go (given input) set = of input set (planned input) refl
       go (refused number place) is = answer-listed asked number place (rw is)
 
   -- A refusal is given exactly when its line of the list applies: to the text, or to the set that it describes.
-  pub refused-exactly : {number place : ℕ} → (said_of bytes ≡ some (refused number place)) ↔ TextListed asked number place
+  pub refused-exactly : {number place : ℕ} → (said_of bytes ≡ Some (refused number place)) ↔ TextListed asked number place
   refused-exactly = (λ says. rw says at any-text-answered, λ listed. said ∙ rw (listed_answer asked listed))
 
   -- The numbers of a refusal are 1 to 10 without 7, which a count of 0 stands for, and 14 to 16. No place is above the last line that is read, 66.
-  pub refusal-small : {number place : ℕ} → said_of bytes ≡ some (refused number place) → SmallRefusal number place
+  pub refusal-small : {number place : ℕ} → said_of bytes ≡ Some (refused number place) → SmallRefusal number place
   refusal-small says = text-listed-small (refused-exactly.0 says)
 
   module _ {board : Board} {js : List Job} (describes : Describes asked board js) where
     -- Plan or refusal, the bytes say what the rules give for the set that the text describes (plan_of, in the specs of columns).
-    pub said-of-rules : said_of bytes ≡ some (planned (record { board = board; jobs = js }))
+    pub said-of-rules : said_of bytes ≡ Some (planned (record { board = board; jobs = js }))
     said-of-rules = rw describes at said
 
-    told : {x : Answer Plan} → said_of bytes ≡ some x → planned (record { board = board; jobs = js }) ≡ x
+    told : {x : Answer Plan} → said_of bytes ≡ Some x → planned (record { board = board; jobs = js }) ≡ x
     told says = let same = sym said-of-rules ∙ says in cc
 
     -- ==== Demand 2. Split and slices are those of the rules. In every accepted plan each job gets its whole work, no core runs two jobs at
     -- once, no job is in two places at once.
-    module _ {p : Plan} (says : said_of bytes ≡ some (given p)) where
+    module _ {p : Plan} (says : said_of bytes ≡ Some (given p)) where
       -- The split is that of the rules (Hetero-Split: split's specs), and so are the slices, row by row (Hetero-Wrap: slices' specs).
       pub split-of-rules : shares_of board (length js) js ≡ given p.shares
       split-of-rules = (plan-shares board (length js) js jobs_most slices_most (told says)).0
@@ -219,26 +218,26 @@ module _ (asked : List ℕ) {bytes : List ℕ} (answer : bytes ≡ answer_text a
       law : Lawful board (length js) js
       law = legal-lawful board (length js) js legal
 
-      caused : {number place : ℕ} → (number ≡ 7 → ⊥) → (said_of bytes ≡ some (refused number place)) ↔ RoomCause board js number place
+      caused : {number place : ℕ} → (number ≡ 7 → ⊥) → (said_of bytes ≡ Some (refused number place)) ↔ RoomCause board js number place
       caused not-space = (
         λ says. listed-cause board js jobs_most slices_most law not-space (plan-listed board js jobs_most slices_most _ _ (told says)),
-        λ cause. said-of-rules ∙ ap some (listed-plan board js jobs_most slices_most (room law cause)),
+        λ cause. said-of-rules ∙ ap Some (listed-plan board js jobs_most slices_most (room law cause)),
       )
 
       -- 6: both kinds are over at home.
-      pub by-six : (said_of bytes ≡ some (refused 6 0)) ↔ BothOver board js
+      pub by-six : (said_of bytes ≡ Some (refused 6 0)) ↔ BothOver board js
       by-six = Iff.trans (caused (λ e. omega arith)) (six board js)
 
       -- 14: the first kind alone is over at home, and so it is with all its movable jobs at their far ends. 15: the same of the second.
-      pub by-fourteen : (said_of bytes ≡ some (refused 14 0)) ↔ StillOver board js First
+      pub by-fourteen : (said_of bytes ≡ Some (refused 14 0)) ↔ StillOver board js First
       by-fourteen = Iff.trans (caused (λ e. omega arith)) (fourteen board js)
 
-      pub by-fifteen : (said_of bytes ≡ some (refused 15 0)) ↔ StillOver board js Second
+      pub by-fifteen : (said_of bytes ≡ Some (refused 15 0)) ↔ StillOver board js Second
       by-fifteen = Iff.trans (caused (λ e. omega arith)) (fifteen board js)
 
       -- 16: one kind alone is over at home, and is not with all its movable jobs at their far ends, but the other is over where the steps
       -- stopped. The one is then exactly full (`sixteen-full` on the page of the split).
-      pub by-sixteen : (said_of bytes ≡ some (refused 16 0)) ↔ ((kind : Kind) × OtherOver board js kind)
+      pub by-sixteen : (said_of bytes ≡ Some (refused 16 0)) ↔ ((kind : Kind) × OtherOver board js kind)
       by-sixteen = Iff.trans (caused (λ e. omega arith)) (sixteen board js)
 
   -- Only a text that describes a set is refused for room.

@@ -7,6 +7,7 @@ use Prim.Native.Nat.{ℕ}
 use Prim.Native.String.{String}
 use Prim.Native.String as S
 use lib.ListN.{replicate}
+use Rattle.std.specs.Prelude.{None, Some}
 use Rattle.rows.specs.Lists.{lowest}
 use Rattle.model.specs.Board.{room_of}
 use Rattle.model.specs.Refusal.{given, refused}
@@ -19,7 +20,7 @@ use Rattle.split.specs.Home.{at_home, keep_of, give_of}
 use Rattle.split.specs.Steps.{better, next_from, moved_of, step_of, steps_of}
 use Rattle.split.specs.Shares.{settled, by_over}
 use Rattle.slices.specs.Table.{chosen, pieces_of, cut_of, packed, table_of}
-use Rattle.text.specs.Hex.{none, some, lines_of, nibble_of, pairs_of, bytes_of, digits_of, text_of, number_from}
+use Rattle.text.specs.Hex.{lines_of, nibble_of, pairs_of, bytes_of, digits_of, text_of, number_from}
 use Rattle.text.specs.Output.{share_records}
 use Rattle.reader.specs.Input.{job_in, entry_of, jobs_from, input_from, input_of}
 use Rattle.clampfern.specs.Answer.{answer_text}
@@ -40,7 +41,7 @@ unfolding bytes lines_of nibble_of pairs_of bytes_of number_from job_in entry_of
 example-answered = refl
 
 pub example-said : said_of (bytes "100203\n110000060000\n110100040003\n1201010000000004\n1200010000040006\n1201020000070003\n")
-    ≡ some (given (record {
+    ≡ Some (given (record {
       shares = share 6 0 ∷ share 4 3 ∷ [];
       slices = slice 1 First 0 0 4 ∷ slice 0 First 0 4 6 ∷ slice 1 Second 0 7 3 ∷ [];
     }))
@@ -49,7 +50,7 @@ example-said = refl
 
 -- The least of each: no job, and a refusal; in capitals, and with no line feed at the end.
 pub least-said : map (λ (s : String). said_of (bytes s)) ("100000\n" ∷ "1f0540\n" ∷ "1F0540" ∷ [])
-    ≡ some (given (record { shares = []; slices = [] })) ∷ some (refused 5 64) ∷ some (refused 5 64) ∷ []
+    ≡ Some (given (record { shares = []; slices = [] })) ∷ Some (refused 5 64) ∷ Some (refused 5 64) ∷ []
 unfolding bytes lines_of nibble_of pairs_of bytes_of number_from all_read share_read shares_read slice_read plan_read records_say said_of
 least-said = refl
 
@@ -82,6 +83,6 @@ wrong =
     ∷ ""
     ∷ []
 
-pub nothing_said : map (λ (s : String). said_of (bytes s)) wrong ≡ replicate 12 none
+pub nothing_said : map (λ (s : String). said_of (bytes s)) wrong ≡ replicate 12 None
 unfolding bytes lines_of nibble_of pairs_of bytes_of number_from all_read share_read shares_read slice_read plan_read records_say said_of
 nothing_said = refl

@@ -13,6 +13,7 @@ use native.Mathlib.Omega.{arith}
 use borrow.Author.Tests.{lt-ltb, le-ltb, le-leb, eq-eqb, eqb-true}
 use lib.Dec.{eqb, ltb}
 use lib.ListN.{length, get_or}
+use Rattle.std.specs.Prelude.{Option, None, Some}
 use Rattle.rows.specs.Lists.{All}
 use Rattle.rows.proofs.Never.{never}
 use Rattle.model.specs.Limits.{text_most}
@@ -23,7 +24,7 @@ use Rattle.model.specs.declared.Kind.TheVariants.{First, Second}
 use Rattle.model.specs.declared.Board.{Board}
 use Rattle.model.specs.declared.Job.{Job}
 use Rattle.model.specs.declared.Slice.{Slice}
-use Rattle.text.specs.Hex.{Maybe, none, some, lines_of, joined, byte_of, at_front, pairs_of, nibble_of, bytes_of, digits_of}
+use Rattle.text.specs.Hex.{lines_of, joined, byte_of, at_front, pairs_of, nibble_of, bytes_of, digits_of}
 use Rattle.text.specs.Output.{count_record, share_record, share_records, slice_record, plan_records, plan_text}
 use Rattle.text.specs.Records.{Form, board_form, job_form, size_of, is_a, field, board_in}
 use Rattle.text.proofs.RoundTrip.{IsRecord, lines-back, bytes_back, in_bytes-back}
@@ -59,7 +60,7 @@ line_first (b ∷ bs) rest unfed = rw (unfed.0, line_first bs rest unfed.1)
 pub record BoardLine (line : List ℕ) (board : Board) : Type 0 where
   pub unfed : Unfed line
   pub bytes : List ℕ
-  pub spelled : bytes_of line ≡ some bytes
+  pub spelled : bytes_of line ≡ Some bytes
   pub form : is_a board_form bytes ≡ true
   pub says : board_in bytes ≡ board
 
@@ -79,20 +80,20 @@ unfolding input_from input_entry
 lines-board [] input unfed e = never (cc)
 lines-board (line ∷ ls) input unfed e = spelled (bytes_of line) refl e
   where
-    not-board : (u : Bool) (m : Maybe Job) → and_then (input_says 1 (cond u (entry_job m) none)) (after_first ls) ≡ given input → BoardLine line input.board
-    not-board true none e = never (cc)
-    not-board true (some j) e = never (cc)
+    not-board : (u : Bool) (m : Option Job) → and_then (input_says 1 (cond u (entry_job m) None)) (after_first ls) ≡ given input → BoardLine line input.board
+    not-board true None e = never (cc)
+    not-board true (Some j) e = never (cc)
     not-board false m e = never (cc)
 
-    formed : (r : List ℕ) → bytes_of line ≡ some r → (t : Bool) → is_a board_form r ≡ t
-        → and_then (input_says 1 (cond t (some (OfBoard (board_in r))) (cond (is_a job_form r) (entry_job (job_in (field job_form 0 r) (field job_form 1 r) (field job_form 2 r))) none)))
+    formed : (r : List ℕ) → bytes_of line ≡ Some r → (t : Bool) → is_a board_form r ≡ t
+        → and_then (input_says 1 (cond t (Some (OfBoard (board_in r))) (cond (is_a job_form r) (entry_job (job_in (field job_form 0 r) (field job_form 1 r) (field job_form 2 r))) None)))
         (after_first ls) ≡ given input → BoardLine line input.board
     formed r is true form e = record { unfed = unfed.0; bytes = r; spelled = is; form = form; says = first-board ls (board_in r) input e }
     formed r is false form e = not-board (is_a job_form r) (job_in (field job_form 0 r) (field job_form 1 r) (field job_form 2 r)) e
 
-    spelled : (m : Maybe (List ℕ)) → bytes_of line ≡ m → and_then (input_bytes 1 m) (after_first ls) ≡ given input → BoardLine line input.board
-    spelled none is e = never (cc)
-    spelled (some r) is e = formed r is (is_a board_form r) refl e
+    spelled : (m : Option (List ℕ)) → bytes_of line ≡ m → and_then (input_bytes 1 m) (after_first ls) ≡ given input → BoardLine line input.board
+    spelled None is e = never (cc)
+    spelled (Some r) is e = formed r is (is_a board_form r) refl e
 
 pub board-line : (text : List ℕ) (input : Input) → input_of text ≡ given input → BoardLine (line_at text 1) input.board
 unfolding input_of
@@ -103,19 +104,19 @@ board-line text input is = go (ltb text_most (length text)) is
     go false e = lines-board (lines_of text) input (lines-unfed text) e
 
 -- Two digits for each byte.
-pairs-length : (line r : List ℕ) → pairs_of line ≡ some r → length line ≡ 2 * length r
+pairs-length : (line r : List ℕ) → pairs_of line ≡ Some r → length line ≡ 2 * length r
 unfolding pairs_of
 pairs-length [] r e = let same : [] ≡ r = cc in omega (arith, ap length same)
 pairs-length (h ∷ []) r e = never (cc)
 pairs-length (h ∷ l ∷ rest) r e = go (byte_of (nibble_of h) (nibble_of l)) (pairs_of rest) (pairs-length rest) e
   where
-    go : (b : Maybe ℕ) (m : Maybe (List ℕ)) → ((q : List ℕ) → m ≡ some q → length rest ≡ 2 * length q) → at_front b m ≡ some r
+    go : (b : Option ℕ) (m : Option (List ℕ)) → ((q : List ℕ) → m ≡ Some q → length rest ≡ 2 * length q) → at_front b m ≡ Some r
         → suc (suc (length rest)) ≡ 2 * length r
-    go none m deep e = never (cc)
-    go (some b) none deep e = never (cc)
-    go (some b) (some bs) deep e = let same : b ∷ bs ≡ r = cc in omega (arith, ap length same, deep bs refl)
+    go None m deep e = never (cc)
+    go (Some b) None deep e = never (cc)
+    go (Some b) (Some bs) deep e = let same : b ∷ bs ≡ r = cc in omega (arith, ap length same, deep bs refl)
 
-pub bytes-length : (line r : List ℕ) → bytes_of line ≡ some r → length line ≡ 2 * length r
+pub bytes-length : (line r : List ℕ) → bytes_of line ≡ Some r → length line ≡ 2 * length r
 unfolding bytes_of
 bytes-length [] r e = never (cc)
 bytes-length (b ∷ bs) r e = pairs-length (b ∷ bs) r e
@@ -131,19 +132,19 @@ pub board-digits : {line : List ℕ} {board : Board} → BoardLine line board �
 board-digits {line} b = omega (arith, bytes-length line b.bytes b.spelled, form-size board_form b.bytes b.form)
 
 -- ---- the records of a plan
-form-back : (i : ℕ) (r : List ℕ) (e : Entry) → IsRecord r → entry_of r ≡ some e → form_says i (digits_of r) ≡ given e
+form-back : (i : ℕ) (r : List ℕ) (e : Entry) → IsRecord r → entry_of r ≡ Some e → form_says i (digits_of r) ≡ given e
 form-back i r e is says = rw (bytes_back r is, says)
 
-counts-entry : (jobs slices : ℕ) → entry_of (count_record jobs slices) ≡ some (of-counts jobs slices)
+counts-entry : (jobs slices : ℕ) → entry_of (count_record jobs slices) ≡ Some (of-counts jobs slices)
 unfolding entry_of
 counts-entry jobs slices = rw (in_bytes-back 0 jobs, in_bytes-back 0 slices)
 
-share-entry : (job : ℕ) (s : Ticks) → entry_of (share_record job s) ≡ some (of-share job)
+share-entry : (job : ℕ) (s : Ticks) → entry_of (share_record job s) ≡ Some (of-share job)
 unfolding entry_of
 share-entry job s = rw (in_bytes-back 0 job)
 
 slice-entry : (job : ℕ) (kind : Kind) (core start ticks : ℕ)
-    → let s : Slice = record { job = job; kind = kind; core = core; start = start; length = ticks } in entry_of (slice_record s) ≡ some (of-slice s)
+    → let s : Slice = record { job = job; kind = kind; core = core; start = start; length = ticks } in entry_of (slice_record s) ≡ Some (of-slice s)
 unfolding entry_of
 slice-entry job First core start ticks =
     rw (in_bytes-back 0 1, in_bytes-back 0 job, in_bytes-back 0 core, in_bytes-back 1 start, in_bytes-back 1 ticks)

@@ -9,13 +9,14 @@ use native.Mathlib.Omega.{arith}
 use borrow.Author.Tests.{ltb-false}
 use lib.Dec.{eqb, leb, ltb}
 use lib.ListN.{length, length-append}
+use Rattle.std.specs.Prelude.{Option, None, Some}
 use Rattle.rows.specs.Lists.{sum_of}
 use Rattle.rows.proofs.Never.{never}
 use Rattle.model.specs.Limits.{text_most}
 use Rattle.model.specs.Refusal.{Answer, given, refused, and_then}
 use Rattle.model.specs.declared.Board.{Board}
 use Rattle.model.specs.declared.Slice.{Slice}
-use Rattle.text.specs.Hex.{Maybe, none, some, lines_of, joined, bytes_of}
+use Rattle.text.specs.Hex.{lines_of, joined, bytes_of}
 use Rattle.text.specs.Records.{board_form, counts_form, share_form, slice_form, line_size, is_a, field}
 use Rattle.kernel.specs.Handed.{Entry, of-board, of-counts, of-share, of-slice, entry_of, record_says, bytes_say, form_says, has_job, line_says, as_board, Counts, as_counts, in_place, slices_from, Handed, counts_from, handed_from, handed_of}
 use Rattle.clampfern.proofs.HandedBack.{bytes-length, form-size}
@@ -39,13 +40,13 @@ lines-size (b ∷ bs) = go (eqb b 10) (lines-size bs)
     go false fits = into (lines_of bs) fits
 
 -- ---- the line of a slice
-slice-form : (r : List ℕ) (s : Slice) → entry_of r ≡ some (of-slice s) → is_a slice_form r ≡ true
+slice-form : (r : List ℕ) (s : Slice) → entry_of r ≡ Some (of-slice s) → is_a slice_form r ≡ true
 unfolding entry_of
 slice-form r s e =
     go (is_a board_form r) (is_a counts_form r) (is_a share_form r) (is_a slice_form r) (eqb (field slice_form 1 r) 1 || eqb (field slice_form 1 r) 2) _ _ _ _ _ e
   where
     go : (p q t l k : Bool) (b : Board) (jobs slices job : ℕ) (row : Slice)
-        → cond p (some (of-board b)) (cond q (some (of-counts jobs slices)) (cond t (some (of-share job)) (cond (l && k) (some (of-slice row)) none))) ≡ some (of-slice s)
+        → cond p (Some (of-board b)) (cond q (Some (of-counts jobs slices)) (cond t (Some (of-share job)) (cond (l && k) (Some (of-slice row)) None))) ≡ Some (of-slice s)
         → l ≡ true
     go true q t l k b jobs slices job row e = never (cc)
     go false true t l k b jobs slices job row e = never (cc)
@@ -56,22 +57,22 @@ slice-form r s e =
 slice-line : (n i : ℕ) (line : List ℕ) (s : Slice) → line_says n i line ≡ given (of-slice s) → suc (length line) ≡ line_size slice_form
 slice-line n i line s e = spelled (bytes_of line) refl e
   where
-    judged : (r : List ℕ) → bytes_of line ≡ some r → (x : Entry) → entry_of r ≡ some x → (t : Bool) → cond t (given x) (refused 9 i) ≡ given (of-slice s)
+    judged : (r : List ℕ) → bytes_of line ≡ Some r → (x : Entry) → entry_of r ≡ Some x → (t : Bool) → cond t (given x) (refused 9 i) ≡ given (of-slice s)
         → suc (length line) ≡ line_size slice_form
     judged r is x says true e =
         let same : x ≡ of-slice s = cc in
-        omega (arith, bytes-length line r is, form-size slice_form r (slice-form r s (says ∙ ap (λ (y : Entry). some y) same)))
+        omega (arith, bytes-length line r is, form-size slice_form r (slice-form r s (says ∙ ap (λ (y : Entry). Some y) same)))
     judged r is x says false e = never (cc)
 
-    said : (r : List ℕ) → bytes_of line ≡ some r → (m : Maybe Entry) → entry_of r ≡ m
+    said : (r : List ℕ) → bytes_of line ≡ Some r → (m : Option Entry) → entry_of r ≡ m
         → and_then (record_says i m) (λ (x : Entry). cond (has_job n x) (given x) (refused 9 i)) ≡ given (of-slice s) → suc (length line) ≡ line_size slice_form
-    said r is none says e = never (cc)
-    said r is (some x) says e = judged r is x says (has_job n x) e
+    said r is None says e = never (cc)
+    said r is (Some x) says e = judged r is x says (has_job n x) e
 
-    spelled : (m : Maybe (List ℕ)) → bytes_of line ≡ m
+    spelled : (m : Option (List ℕ)) → bytes_of line ≡ m
         → and_then (bytes_say i m) (λ (x : Entry). cond (has_job n x) (given x) (refused 9 i)) ≡ given (of-slice s) → suc (length line) ≡ line_size slice_form
-    spelled none is e = never (cc)
-    spelled (some r) is e = said r is (entry_of r) refl e
+    spelled None is e = never (cc)
+    spelled (Some r) is e = said r is (entry_of r) refl e
 
 -- What a line gives the table takes no more than its line.
 here-fits : (c : Counts) (i : ℕ) (line : List ℕ) (e : Entry) (here : List Slice) → line_says c.jobs i line ≡ given e → in_place c i e ≡ given here

@@ -1,4 +1,4 @@
--- Open Demands first. The proof that a function meets its contract is in the folder of its name.
+-- Open Demands first. What the check does not find of the proof that a function meets its contract is in the folder of its name.
 --
 -- The three demands of every answer, in their own words, from the promises and nothing else.
 mod Demands

@@ -9,6 +9,7 @@ use native.Mathlib.Numerals.{unary_clauses}
 use native.Mathlib.Omega.{arith}
 use borrow.Author.Tests.{le-ltb}
 use lib.ListN.{length, drop, replicate, length-map}
+use Rattle.std.specs.Prelude.{Result, Ok, Err}
 use Rattle.rows.specs.Lists.{front}
 use Rattle.rows.proofs.Never.{never}
 use Rattle.model.specs.Columns.{cost_on, jobs_in, shares_in as shares_from}
@@ -25,18 +26,16 @@ use Rattle.model.proofs.Columns.{costs-back}
 use Rattle.split.specs.Shares.{shares_of}
 use Rattle.split.proofs.Seen.{shares-seen}
 use Rattle.slices.specs.Table.{table_of}
-use Rattle.columns.specs.Plan.{Plan, Counts, fitted, plan_of, columns_of, shares_given, slices_given, counts_in, says_planned}
+use Rattle.columns.specs.Plan.{Plan, fitted, plan_of, columns_of, shares_given, slices_given, counts_in}
 use Rattle.columns.specs.Promise.{Columned}
-use Rattle.columns.specs.declared.Planned.{Planned}
-use Rattle.columns.specs.declared.Planned.TheVariants.{Plan as Counted, Refused}
+use Rattle.columns.specs.declared.Counts.{Counts}
 use Rattle.columns.proofs.ColumnFronts.{shares-front, slices-front}
 use Rattle.columns.proofs.PlanLaws.{table-asks}
 use Rattle.planner.proofs.Causes.{plan-listed}
 use Rattle.planner.proofs.Demands.{listed_small}
 use Rattle.text.specs.Output.{plan_text}
-use Rattle.reader.specs.Input.{Input, Head, input_of, in_columns, Gives, Reads}
-use Rattle.reader.specs.declared.Reading.{Reading}
-use Rattle.reader.specs.declared.Reading.TheVariants.{Set, Refused as Unread}
+use Rattle.reader.specs.Input.{Input, input_of, in_columns, Gives, Reads}
+use Rattle.reader.specs.declared.Head.{Head}
 use Rattle.clampfern.specs.Answer.{planned, lines_for, answer_text}
 use Rattle.clampfern.proofs.Answers.{text-listed-small}
 use Rattle.clampfern.proofs.Bounds.{small, narrow}
@@ -68,33 +67,34 @@ module _ (board : Board) (js : List Job) where
           rw (le-ltb jobs_most (length ss) asks.few, le-ltb slices_most (length (table_of board.window ss)) asks.rows)
       go (refused number place) is = refl
 
-module _ {board : Board} {n : ℕ} {js : List Job} {s1 s2 rows : List ℕ} {r : Planned} (c : Columned board n js zeros zeros none_yet r s1 s2 rows)
+module _ {board : Board} {n : ℕ} {js : List Job} {s1 s2 rows : List ℕ} {r : Result Counts Refusal} (c : Columned board n js zeros zeros none_yet r s1 s2 rows)
     (size : length js ≡ n) where
   same : columns_of board n js jobs_most jobs_most slices_most ≡ plan board js
   same = rw (← size) (columns-plan board js)
 
-  pub columns-planned : {jobs k : ℕ} → r ≡ Counted jobs k
-      → plan_text (shares_from (min jobs jobs_most) s1 s2) (slices_from (min k slices_most) rows) ≡ lines_for (plan_of board n js jobs_most slices_most)
-  columns-planned {jobs} {k} is = rw (← size) (go (plan board js) refl (rw (is, same) at c.says) (rw same at c.first) (rw same at c.second) (rw same at c.slices))
+  pub columns-planned : {counts : Counts} → r ≡ Ok counts
+      → plan_text (shares_from (min counts.jobs jobs_most) s1 s2) (slices_from (min counts.slices slices_most) rows)
+      ≡ lines_for (plan_of board n js jobs_most slices_most)
+  columns-planned {counts} is = rw (← size) (go (plan board js) refl (rw (is, same) at c.says) (rw same at c.first) (rw same at c.second) (rw same at c.slices))
     where
-      go : (x : Answer Plan) → plan board js ≡ x → says_planned (Counted jobs k) ≡ counts_in x → s1 ≡ front (map (ticks_on First) (shares_given x)) zeros
+      go : (x : Answer Plan) → plan board js ≡ x → given counts ≡ counts_in x → s1 ≡ front (map (ticks_on First) (shares_given x)) zeros
           → s2 ≡ front (map (ticks_on Second) (shares_given x)) zeros → rows ≡ front (map pack_of (slices_given x)) none_yet
-          → plan_text (shares_from (min jobs jobs_most) s1 s2) (slices_from (min k slices_most) rows) ≡ lines_for x
+          → plan_text (shares_from (min counts.jobs jobs_most) s1 s2) (slices_from (min counts.slices slices_most) rows) ≡ lines_for x
       go (given p) is says first second slices =
-          let counts : ◌≡◌ {A = Counts} (record { jobs = jobs; slices = k }) (record { jobs = length p.shares; slices = length p.slices }) = cc in
+          let counted : ◌≡◌ {A = Counts} counts (record { jobs = length p.shares; slices = length p.slices }) = cc in
           let within = small board js jobs_most slices_most is in
-          let all-jobs : min jobs jobs_most ≡ length p.shares = omega (arith, ap (λ (c : Counts). c.jobs) counts, within.few-jobs) in
-          let all-rows : min k slices_most ≡ length p.slices = omega (arith, ap (λ (c : Counts). c.slices) counts, within.few-slices) in
-          let ss-back : shares_from (min jobs jobs_most) s1 s2 ≡ p.shares = rw (all-jobs, first, second) (shares-front p.shares _ _) in
-          let rows_back : slices_from (min k slices_most) rows ≡ p.slices = rw (all-rows, slices) (slices-front p.slices _ (narrow board js jobs_most slices_most is)) in
+          let all-jobs : min counts.jobs jobs_most ≡ length p.shares = omega (arith, ap (λ (c : Counts). c.jobs) counted, within.few-jobs) in
+          let all-rows : min counts.slices slices_most ≡ length p.slices = omega (arith, ap (λ (c : Counts). c.slices) counted, within.few-slices) in
+          let ss-back : shares_from (min counts.jobs jobs_most) s1 s2 ≡ p.shares = rw (all-jobs, first, second) (shares-front p.shares _ _) in
+          let rows_back : slices_from (min counts.slices slices_most) rows ≡ p.slices = rw (all-rows, slices) (slices-front p.slices _ (narrow board js jobs_most slices_most is)) in
           rw (ss-back, rows_back)
       go (refused number place) is says first second slices = never (cc)
 
-  module _ {refusal : Refusal} (is : r ≡ Refused refusal) where
+  module _ {refusal : Refusal} (is : r ≡ Err refusal) where
     plan-refused : plan board js ≡ says_refusal refusal
     plan-refused = go (plan board js) (rw (is, same) at c.says)
       where
-        go : (x : Answer Plan) → says_planned (Refused refusal) ≡ counts_in x → x ≡ says_refusal refusal
+        go : (x : Answer Plan) → ◌≡◌ {A = Answer Counts} (says_refusal refusal) (counts_in x) → x ≡ says_refusal refusal
         go (given p) says = never (cc)
         go (refused number place) says = cc
 
@@ -112,18 +112,18 @@ drop-replicate zero m x = simp unary_clauses
 drop-replicate (suc n) zero x = let e : 0 - suc n ≡ 0 = omega arith in rw e
 drop-replicate (suc n) (suc m) x = simp unary_clauses (drop-replicate n m x)
 
-module _ (text : List ℕ) {c1 c2 : List ℕ} {r : Reading} (reads : Reads text zeros zeros r c1 c2) where
-  pub read-planned : {board : Board} {n : ℕ} → r ≡ Set board n → lines_for (plan_of board n (jobs_in n c1 c2) jobs_most slices_most) ≡ answer_text text
-  read-planned {board} {n} is = go (input_of text) reads
+module _ (text : List ℕ) {c1 c2 : List ℕ} {r : Result Head Refusal} (reads : Reads text zeros zeros r c1 c2) where
+  pub read-planned : {head : Head} → r ≡ Ok head → lines_for (plan_of head.board head.jobs (jobs_in head.jobs c1 c2) jobs_most slices_most) ≡ answer_text text
+  read-planned {head} is = go (input_of text) reads
     where
       go : (x : Answer Input) → Gives x (in_columns x jobs_most jobs_most) zeros zeros r c1 c2
-          → lines_for (plan_of board n (jobs_in n c1 c2) jobs_most slices_most) ≡ lines_for (and_then x planned)
+          → lines_for (plan_of head.board head.jobs (jobs_in head.jobs c1 c2) jobs_most slices_most) ≡ lines_for (and_then x planned)
       go (given input) g =
-          let head : ◌≡◌ {A = Head} (record { board = board; count = n }) (record { board = input.board; count = length input.jobs }) = cc in
-          rw (g.first, g.second, length-map input.jobs (cost_on First), length-map input.jobs (cost_on Second), drop-replicate (length input.jobs) jobs_most 0, ap (λ (h : Head). h.board) head, ap (λ (h : Head). h.count) head, costs-back input.jobs g.few, plan-seen input.board (length input.jobs) input.jobs jobs_most slices_most)
+          let headed : ◌≡◌ {A = Head} head (record { board = input.board; jobs = length input.jobs }) = cc in
+          rw (g.first, g.second, length-map input.jobs (cost_on First), length-map input.jobs (cost_on Second), drop-replicate (length input.jobs) jobs_most 0, ap (λ (h : Head). h.board) headed, ap (λ (h : Head). h.jobs) headed, costs-back input.jobs g.few, plan-seen input.board (length input.jobs) input.jobs jobs_most slices_most)
       go (refused number place) g = never (cc)
 
-  module _ {refusal : Refusal} (is : r ≡ Unread refusal) where
+  module _ {refusal : Refusal} (is : r ≡ Err refusal) where
     read-refused : input_of text ≡ says_refusal refusal
     read-refused = go (input_of text) reads
       where

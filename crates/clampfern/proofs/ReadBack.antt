@@ -7,6 +7,7 @@ use mathlib.Core.List.{List, [], ◌∷◌, map}
 use Prim.Native.Nat.{ℕ, ◌+◌, ◌≤◌, ◌<◌}
 use native.Mathlib.Omega.{arith}
 use lib.ListN.{length}
+use Rattle.std.specs.Prelude.{Some}
 use Rattle.rows.specs.Lists.{All}
 use Rattle.rows.proofs.Lists.{all_append}
 use Rattle.model.specs.Packed.{kind_number}
@@ -20,7 +21,7 @@ use Rattle.model.specs.declared.Board.{Board}
 use Rattle.model.specs.declared.Job.{Job}
 use Rattle.model.specs.declared.Slice.{Slice}
 use Rattle.columns.specs.Plan.{Plan, plan_of}
-use Rattle.text.specs.Hex.{some, lines_of, bytes_of}
+use Rattle.text.specs.Hex.{lines_of, bytes_of}
 use Rattle.text.specs.Output.{share_records, slice_record, plan_records, plan_text}
 use Rattle.text.proofs.RoundTrip.{IsRecord, read_back}
 use Rattle.clampfern.proofs.Bounds.{Small, small, narrow}
@@ -52,5 +53,5 @@ module _ (board : Board) (js : List Job) (m k : ℕ) {p : Plan} (is : plan_of bo
         (slices-records p.slices (narrow board js m k is)),
   )
 
-  pub plan-back : map bytes_of (lines_of (plan_text p.shares p.slices)) ≡ map (λ (r : List ℕ). some r) (plan_records p.shares p.slices)
+  pub plan-back : map bytes_of (lines_of (plan_text p.shares p.slices)) ≡ map (λ (r : List ℕ). Some r) (plan_records p.shares p.slices)
   plan-back = read_back (plan_records p.shares p.slices) plan-records

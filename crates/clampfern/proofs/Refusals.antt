@@ -13,12 +13,13 @@ use borrow.Author.Tests.{ltb-true, ltb-false}
 use lib.Dec.{ltb}
 use lib.ListN.{length, drop, length-drop}
 use lib.Seq.{drop-cons}
+use Rattle.std.specs.Prelude.{Option, None, Some}
 use Rattle.rows.proofs.Never.{never}
 use Rattle.model.specs.Limits.{jobs_most, text_most}
 use Rattle.model.specs.Refusal.{Answer, given, refused, and_then}
 use Rattle.model.specs.declared.Board.{Board}
 use Rattle.model.specs.declared.Job.{Job}
-use Rattle.text.specs.Hex.{Maybe, none, some, lines_of, bytes_of}
+use Rattle.text.specs.Hex.{lines_of, bytes_of}
 use Rattle.reader.specs.Input.{Input, entry_of, record_says, bytes_say, line_says, as_board, as_job, jobs_from, input_from, input_of}
 use Rattle.reader.specs.declared.Entry.{Entry}
 use Rattle.reader.specs.declared.Entry.TheVariants.{OfBoard, OfJob}
@@ -50,13 +51,13 @@ module _ (text : List ℕ) where
   line-told : (i : ℕ) → Reached text i → Told (line_says i (line_at text i))
   line-told i at = bytes-told (bytes_of (line_at text i)) refl
     where
-      record-told : (r : List ℕ) → bytes_of (line_at text i) ≡ some r → (m : Maybe Entry) → entry_of r ≡ m → Told (record_says i m)
-      record-told r is none e = unknown i r at is e
-      record-told r is (some x) e = tt
+      record-told : (r : List ℕ) → bytes_of (line_at text i) ≡ Some r → (m : Option Entry) → entry_of r ≡ m → Told (record_says i m)
+      record-told r is None e = unknown i r at is e
+      record-told r is (Some x) e = tt
 
-      bytes-told : (m : Maybe (List ℕ)) → bytes_of (line_at text i) ≡ m → Told (bytes_say i m)
-      bytes-told none is = digits i at is
-      bytes-told (some r) is = record-told r is (entry_of r) refl
+      bytes-told : (m : Option (List ℕ)) → bytes_of (line_at text i) ≡ m → Told (bytes_say i m)
+      bytes-told None is = digits i at is
+      bytes-told (Some r) is = record-told r is (entry_of r) refl
 
   -- n jobs were read before line i.
   module _ (short : length text ≤ text_most) where

@@ -14,6 +14,7 @@ use native.Mathlib.Omega.{arith}
 use lib.Dec.{eqb}
 use lib.ListN.{length, take, drop, get_or, length-append}
 use lib.Seq.{take-append_seam, drop-append_seam}
+use Rattle.std.specs.Prelude.{Some, Option, None}
 use Rattle.rows.specs.Numbered.{sum_below}
 use Rattle.rows.proofs.Lists.{all_map}
 use Rattle.rows.proofs.Numbered.{below-same}
@@ -33,9 +34,8 @@ use Rattle.columns.specs.Plan.{Plan, plan_of}
 use Rattle.columns.proofs.PlanLaws.{shares-lawful}
 use Rattle.planner.specs.Promise.{GoodPlan}
 use Rattle.planner.proofs.PlanKept.{plan-shares, plan-kept}
-use Rattle.text.specs.Hex.{some}
 use Rattle.text.specs.Output.{plan_text}
-use Rattle.handler.specs.Running.{cores_in, Running, idle, runs, running_in, asked_of}
+use Rattle.handler.specs.Running.{cores_in, running_in, asked_of}
 use Rattle.handler.proofs.Tabled.{Tabled}
 use Rattle.handler.proofs.Tests.{IsThere}
 use Rattle.packed.specs.Packed.{packed_most, is_packed, packed_asked}
@@ -57,10 +57,10 @@ use Rattle.clampfern.proofs.Size.{answer-size}
 -- ==== The numbers. On any lines at all, and for every tick, kind and core, the number tells the answer: below 256 it is the job, 256 says that no
 -- job runs, and 513 to 525 are the refusals, 512 above their numbers. So no two answers share a number, but for the place of a refusal.
 module _ (lines : List ℕ) (tick kind core : ℕ) {code : ℕ} (said : code ≡ code_of (tick_of lines tick kind core)) where
-  pub job-exactly : (j : ℕ) → j < idle_code → (code ≡ j) ↔ (tick_of lines tick kind core ≡ given (runs j))
+  pub job-exactly : (j : ℕ) → j < idle_code → (code ≡ j) ↔ (tick_of lines tick kind core ≡ given (Some j))
   job-exactly j byte = (λ is. job-code (tick-coded lines tick kind core) j byte (sym said ∙ is), λ is. said ∙ ap code_of is)
 
-  pub idle-exactly : (code ≡ idle_code) ↔ (tick_of lines tick kind core ≡ given idle)
+  pub idle-exactly : (code ≡ idle_code) ↔ (tick_of lines tick kind core ≡ given None)
   idle-exactly = (λ is. idle_code-only (tick-coded lines tick kind core) (sym said ∙ is), λ is. said ∙ ap code_of is)
 
   pub refused-exactly : (number : ℕ) → (code ≡ refusal_base + number) ↔ ((place : ℕ) × (tick_of lines tick kind core ≡ refused number place))
@@ -71,7 +71,7 @@ module _ (lines : List ℕ) (tick kind core : ℕ) {code : ℕ} (said : code ≡
   pub code-kinds : (code < idle_code) ⊎ ((code ≡ idle_code) ⊎ ((refusal_base + 1 ≤ code) × (code ≤ refusal_base + 13)))
   code-kinds = rw said (go (tick-coded lines tick kind core))
     where
-      go : {a : Answer Running} → Coded a
+      go : {a : Answer (Option ℕ)} → Coded a
           → (code_of a < idle_code) ⊎ ((code_of a ≡ idle_code) ⊎ ((refusal_base + 1 ≤ code_of a) × (code_of a ≤ refusal_base + 13)))
       go no-job = inr (inl refl)
       go (job j byte) = inl byte
@@ -79,7 +79,7 @@ module _ (lines : List ℕ) (tick kind core : ℕ) {code : ℕ} (said : code ≡
 
 -- ==== On the planner's lines: a text `asked` that describes a set, and bytes that are its answer and say a plan.
 module _ (asked : List ℕ) {bytes : List ℕ} (answer : bytes ≡ answer_text asked) {board : Board} {js : List Job} (describes : Describes asked board js)
-    {p : Plan} (says : said_of bytes ≡ some (given p)) where
+    {p : Plan} (says : said_of bytes ≡ Some (given p)) where
   -- What is handed over: the board's line of the text, in small letters or capitals, ended by a line feed, and the answer.
   abbrev handed : List ℕ
   handed = line_at asked 1 ++ (10 ∷ bytes)

@@ -6,13 +6,13 @@
 --   Reached      a line that is read: the text is short enough, and every line before it is good
 --   TextListed   the number and the place of a refusal, and why it is given
 -- Assumes nothing.
-use Rattle.std.specs.Prelude.{List, [], ◌≡◌, ℕ, ◌+◌, ◌-◌, ◌≤◌, ◌<◌, length, get_or}
+use Rattle.std.specs.Prelude.{List, [], ◌≡◌, ℕ, ◌+◌, ◌-◌, ◌≤◌, ◌<◌, length, get_or, None, Some}
 use Rattle.model.specs.Limits.{jobs_most, slices_most, text_most}
 use Rattle.model.specs.Refusal.{given}
 use Rattle.model.specs.declared.Board.{Board}
 use Rattle.model.specs.declared.Job.{Job}
 use Rattle.planner.specs.Listed.{Listed}
-use Rattle.text.specs.Hex.{none, some, lines_of, bytes_of}
+use Rattle.text.specs.Hex.{lines_of, bytes_of}
 use Rattle.reader.specs.Input.{Input, entry_of, line_says, input_of}
 use Rattle.reader.specs.declared.Entry.TheVariants.{OfBoard, OfJob}
 
@@ -37,9 +37,9 @@ pub record Reached (text : List ℕ) (i : ℕ) : Type 0 where
 pub data TextListed (text : List ℕ) : (number place : ℕ) → Type 0 where
   -- 8: more bytes than a text may have, before any line; or a line that spells no bytes.
   over : text_most < length text → TextListed text 8 0
-  digits : (i : ℕ) → Reached text i → bytes_of (line_at text i) ≡ none → TextListed text 8 i
+  digits : (i : ℕ) → Reached text i → bytes_of (line_at text i) ≡ None → TextListed text 8 i
   -- 9: a record that is none of an input's.
-  unknown : (i : ℕ) (r : List ℕ) → Reached text i → bytes_of (line_at text i) ≡ some r → entry_of r ≡ none → TextListed text 9 i
+  unknown : (i : ℕ) (r : List ℕ) → Reached text i → bytes_of (line_at text i) ≡ Some r → entry_of r ≡ None → TextListed text 9 i
   -- 10: the first line is no board, a later one is, or there is no line.
   job-first : (j : Job) → Reached text 1 → line_says 1 (line_at text 1) ≡ given (OfJob j) → TextListed text 10 1
   board-later : (i : ℕ) (b : Board) → Reached text i → 2 ≤ i → line_says i (line_at text i) ≡ given (OfBoard b) → TextListed text 10 i

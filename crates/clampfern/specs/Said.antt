@@ -11,7 +11,7 @@
 --   said_of       what bytes say: a plan, or one refusal by its number and place; anything else says nothing
 --   room_said     whether that is a refusal for room
 -- Assumes nothing.
-use Rattle.std.specs.Prelude.{Bool, false, cond, ◌&&◌, List, [], ◌∷◌, map, ℕ, ◌+◌, eqb, length, take, drop}
+use Rattle.std.specs.Prelude.{Bool, false, cond, ◌&&◌, List, [], ◌∷◌, map, ℕ, ◌+◌, eqb, length, take, drop, Option, None, Some}
 use Rattle.model.specs.Packed.{kind_number}
 use Rattle.model.specs.Refusal.{Answer, given, refused, room_refusal}
 use Rattle.model.specs.Split.{Ticks, share}
@@ -19,31 +19,31 @@ use Rattle.model.specs.declared.Kind.{Kind}
 use Rattle.model.specs.declared.Kind.TheVariants.{First, Second}
 use Rattle.model.specs.declared.Slice.{Slice}
 use Rattle.columns.specs.Plan.{Plan}
-use Rattle.text.specs.Hex.{Maybe, none, some, lines_of, bytes_of}
+use Rattle.text.specs.Hex.{lines_of, bytes_of}
 use Rattle.text.specs.Records.{counts_form, share_form, slice_form, refusal_form, is_a, field}
 
-abbrev pub then_read : {A B : Type 0} → Maybe A → (A → Maybe B) → Maybe B
-then_read none f = none
-then_read (some a) f = f a
+abbrev pub then_read : {A B : Type 0} → Option A → (A → Option B) → Option B
+then_read None f = None
+then_read (Some a) f = f a
 
-unfoldable pub all_read : {A : Type 0} → List (Maybe A) → Maybe (List A)
-all_read [] = some []
-all_read {A} (x ∷ xs) = then_read x (λ (a : A). then_read (all_read xs) (λ (rest : List A). some (a ∷ rest)))
+unfoldable pub all_read : {A : Type 0} → List (Option A) → Option (List A)
+all_read [] = Some []
+all_read {A} (x ∷ xs) = then_read x (λ (a : A). then_read (all_read xs) (λ (rest : List A). Some (a ∷ rest)))
 
-unfoldable pub share_read : ℕ → List ℕ → Maybe Ticks
-share_read job r = cond (is_a share_form r && eqb (field share_form 0 r) job) (some (share (field share_form 1 r) (field share_form 2 r))) none
+unfoldable pub share_read : ℕ → List ℕ → Option Ticks
+share_read job r = cond (is_a share_form r && eqb (field share_form 0 r) job) (Some (share (field share_form 1 r) (field share_form 2 r))) None
 
-unfoldable pub shares_read : ℕ → List (List ℕ) → List (Maybe Ticks)
+unfoldable pub shares_read : ℕ → List (List ℕ) → List (Option Ticks)
 shares_read job [] = []
 shares_read job (r ∷ rs) = share_read job r ∷ shares_read (job + 1) rs
 
-abbrev pub kind_read : ℕ → Maybe Kind
-kind_read b = cond (eqb b (kind_number First)) (some First) (cond (eqb b (kind_number Second)) (some Second) none)
+abbrev pub kind_read : ℕ → Option Kind
+kind_read b = cond (eqb b (kind_number First)) (Some First) (cond (eqb b (kind_number Second)) (Some Second) None)
 
-unfoldable pub slice_read : List ℕ → Maybe Slice
+unfoldable pub slice_read : List ℕ → Option Slice
 slice_read r =
-    then_read (cond (is_a slice_form r) (kind_read (field slice_form 1 r)) none) (λ (k : Kind).
-    some (record {
+    then_read (cond (is_a slice_form r) (kind_read (field slice_form 1 r)) None) (λ (k : Kind).
+    Some (record {
       job = field slice_form 0 r;
       kind = k;
       core = field slice_form 2 r;
@@ -51,23 +51,23 @@ slice_read r =
       length = field slice_form 4 r;
     }))
 
-unfoldable pub plan_read : (jobs slices : ℕ) → List (List ℕ) → Maybe (Answer Plan)
+unfoldable pub plan_read : (jobs slices : ℕ) → List (List ℕ) → Option (Answer Plan)
 plan_read jobs slices rs =
     cond (eqb (length rs) (jobs + slices))
     (then_read (all_read (shares_read 0 (take jobs rs))) (λ (ss : List Ticks). then_read (all_read (map slice_read (drop jobs rs)))
-    (λ (rows : List Slice). some (given (record { shares = ss; slices = rows })))))
-    none
+    (λ (rows : List Slice). Some (given (record { shares = ss; slices = rows })))))
+    None
 
 -- The counts stand before a plan. Nothing stands after a refusal.
-unfoldable pub records_say : List (List ℕ) → Maybe (Answer Plan)
-records_say [] = none
+unfoldable pub records_say : List (List ℕ) → Option (Answer Plan)
+records_say [] = None
 records_say (r ∷ rs) =
     cond (is_a counts_form r) (plan_read (field counts_form 0 r) (field counts_form 1 r) rs)
-    (cond (is_a refusal_form r && eqb (length rs) 0) (some (refused (field refusal_form 0 r) (field refusal_form 1 r))) none)
+    (cond (is_a refusal_form r && eqb (length rs) 0) (Some (refused (field refusal_form 0 r) (field refusal_form 1 r))) None)
 
-unfoldable pub said_of : List ℕ → Maybe (Answer Plan)
+unfoldable pub said_of : List ℕ → Option (Answer Plan)
 said_of text = then_read (all_read (map bytes_of (lines_of text))) records_say
 
-abbrev pub room_said : Maybe (Answer Plan) → Bool
-room_said none = false
-room_said (some x) = room_refusal x
+abbrev pub room_said : Option (Answer Plan) → Bool
+room_said None = false
+room_said (Some x) = room_refusal x

@@ -7,10 +7,9 @@
 --   bytes_for      the packed bytes of their table, and none where the lines are refused
 --   PackedBytes    packing for C: the count, 0 where it is refused, and every lent byte
 -- Assumes nothing.
-use Rattle.std.specs.Prelude.{List, [], ◌≡◌, ℕ, ◌+◌, length}
+use Rattle.std.specs.Prelude.{List, [], ◌≡◌, ℕ, ◌+◌, length, Option, None, Some}
 use Rattle.model.specs.Packed.{slices_in}
 use Rattle.model.specs.Refusal.{Answer, given, refused}
-use Rattle.handler.specs.Running.{Running, idle, runs}
 use Rattle.packed.specs.Packed.{packed_of, packs, laid}
 use Rattle.kernel.specs.Handed.{Handed, handed_of, column_of}
 
@@ -21,9 +20,9 @@ abbrev pub refusal_base : ℕ
 refusal_base = 512
 
 -- The place of a refusal is not told.
-abbrev pub code_of : Answer Running → ℕ
-code_of (given idle) = idle_code
-code_of (given (runs job)) = job
+abbrev pub code_of : Answer (Option ℕ) → ℕ
+code_of (given None) = idle_code
+code_of (given (Some job)) = job
 code_of (refused number place) = refusal_base + number
 
 abbrev pub count_in : Answer ℕ → ℕ

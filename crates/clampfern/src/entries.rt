@@ -1,26 +1,26 @@
 // The tick handler for C: what the board's kernel calls at each tick, by the exports of crate clampfern_c (include/clampfern.h). The lines are read,
 // and the answers found, in the crates below; here each answer becomes the one number that C gets.
 ghost use Rattle.std.specs.Prelude.{◌≡◌};
-ghost use Rattle.handler.specs.Running.{says_named};
+ghost use Rattle.model.specs.Refusal.{says};
 ghost use Rattle.packed.specs.Packed.{packed_asked};
 ghost use Rattle.kernel.specs.Handed.{tick_of};
 ghost use Rattle.clampfern.specs.Tick.{code_of, PackedBytes};
 
-use handler::Named;
-use text::Written;
+use model::Refusal;
 
-// The number for no job, one above the greatest number of a job; and what is added to a refusal's number (specs/Tick.antt).
+// The number for no job, one above the greatest number of a job; and what is added to a refusal's number (specs/Tick.antt). C gets one number, so
+// this is where an answer stops being a `Result`.
 const IDLE: u32 = 256;
 
 const REFUSAL_BASE: u32 = 512;
 
-fn code(named: Named) -> u32
-    ensures { result ≡ code_of (says_named named) }
+fn code(named: Result<Option<u8>, Refusal>) -> u32
+    ensures { result ≡ code_of (says named) }
 {
     match named {
-        Named::Job(job) => job as u32,
-        Named::Idle => IDLE,
-        Named::Refused(refusal) => REFUSAL_BASE + model::number(refusal) as u32,
+        Ok(Some(job)) => u32::from(job),
+        Ok(None) => IDLE,
+        Err(refusal) => REFUSAL_BASE + u32::from(model::number(refusal)),
     }
 }
 
@@ -35,10 +35,7 @@ pub fn clampfern_tick(lines: &[u8], tick: u32, kind: u32, core: u32) -> u32
 pub fn clampfern_pack(lines: &[u8], table: &mut [u8]) -> usize
     ensures { PackedBytes lines.now table.old table.new result }
 {
-    match kernel::pack(lines, table) {
-        Written::Bytes(count) => count,
-        Written::Refused(_) => 0,
-    }
+    kernel::pack(lines, table).unwrap_or(0)
 }
 
 // The same as `clampfern_tick`, of packed bytes, which are looked over once.

@@ -13,13 +13,13 @@ ghost use Rattle.clampfern.specs.Answer.{lines_for, answer_text, Entered, Answer
 
 mod entries;
 
-use columns::Planned;
+use columns::Counts;
 pub use entries::{clampfern_pack, clampfern_packed_tick, clampfern_tick};
 use model::{Board, JOBS_MOST, Refusal, SLICES_MOST};
-use reader::Reading;
-use text::{ANSWER_MOST, Written};
+use text::ANSWER_MOST;
 
-// The answer to a text by value: its lines, and how many bytes they have. All other bytes are zero.
+// The answer to a text by value: its lines, and how many bytes they have. All other bytes are zero. An array with a size beside it, and no String,
+// since memory is fixed: nothing here allocates.
 #[derive(Clone, Copy)]
 pub struct AnswerLines {
     pub bytes: [u8; ANSWER_MOST],
@@ -27,7 +27,7 @@ pub struct AnswerLines {
 }
 
 // The line of a refusal, which has one byte for the place. Here a place is a line of a text, 66 at most, or a job of a set, so it always fits.
-fn write_refused(refusal: Refusal, out: &mut [u8]) -> Written
+fn write_refused(refusal: Refusal, out: &mut [u8]) -> Result<usize, Refusal>
     requires { place_of refusal < 256 }
     ensures { Writes TooShort out.old out.new (refused_text (number_of refusal) (place_of refusal)) result }
 {
@@ -35,13 +35,14 @@ fn write_refused(refusal: Refusal, out: &mut [u8]) -> Written
 }
 
 // The lines of the plan of a set in columns, or of its refusal. The plan's own columns are long enough for every set.
+// Here and below, columns have a count beside them, as `columns::plan_columns` and `text::write_plan` take them.
 fn answer_in(
     board: Board,
     first: &[u32; JOBS_MOST],
     second: &[u32; JOBS_MOST],
     n: usize,
     out: &mut [u8],
-) -> Written
+) -> Result<usize, Refusal>
     ensures { Writes TooShort out.old out.new (lines_for (plan_of board n (jobs_in n first.now second.now) jobs_most slices_most)) result }
 {
     let mut shares1 = [0u16; JOBS_MOST];
@@ -57,22 +58,22 @@ fn answer_in(
         &mut slices,
     );
     match planned {
-        Planned::Refused(refusal) => write_refused(refusal, out),
-        Planned::Plan(jobs, rows) => {
+        Ok(Counts { jobs, slices: rows }) => {
             text::write_plan(&shares1, &shares2, jobs, &slices, rows, out)
         }
+        Err(refusal) => write_refused(refusal, out),
     }
 }
 
 // The answer to a text, into a lent text: the lines of its plan, or the line of its refusal.
-pub fn plan_text(text: &[u8], out: &mut [u8]) -> Written
+pub fn plan_text(text: &[u8], out: &mut [u8]) -> Result<usize, Refusal>
     ensures { Writes TooShort out.old out.new (answer_text text.now) result }
 {
     let mut first = [0u32; JOBS_MOST];
     let mut second = [0u32; JOBS_MOST];
     match reader::read(text, &mut first, &mut second) {
-        Reading::Refused(refusal) => write_refused(refusal, out),
-        Reading::Set(board, n) => answer_in(board, &first, &second, n, out),
+        Ok(head) => answer_in(head.board, &first, &second, head.jobs, out),
+        Err(refusal) => write_refused(refusal, out),
     }
 }
 
@@ -80,10 +81,7 @@ pub fn plan_text(text: &[u8], out: &mut [u8]) -> Written
 pub fn clampfern_plan(text: &[u8], out: &mut [u8]) -> usize
     ensures { Entered text.now out.old out.new result }
 {
-    match plan_text(text, out) {
-        Written::Bytes(count) => count,
-        Written::Refused(_) => 0,
-    }
+    plan_text(text, out).unwrap_or(0)
 }
 
 // The same by value, for a caller that lends nothing: an answer always fits, so there is no case of a text that is too short.

@@ -11,6 +11,7 @@ use mathlib.Core.List.{List, [], ◌∷◌, map}
 use mathlib.Core.Path.{◌≡◌, refl}
 use Prim.Native.Nat.{ℕ}
 use lib.ListN.{replicate}
+use Rattle.std.specs.Prelude.{None}
 use Rattle.rows.specs.Lists.{lowest}
 use Rattle.model.specs.Packed.{pack_of, slice_in}
 use Rattle.model.specs.Refusal.{Answer, given, refused}
@@ -20,7 +21,7 @@ use Rattle.model.proofs.BothSides.{row}
 use Rattle.text.specs.Hex.{lines_of, nibble_of, pairs_of, bytes_of, digits_of, text_of, number_from}
 use Rattle.legal.specs.Legal.{on_board}
 use Rattle.handler.specs.Check.{is_row, collision_of, check_of}
-use Rattle.handler.specs.Running.{idle, running_in}
+use Rattle.handler.specs.Running.{running_in}
 use Rattle.kernel.specs.Handed.{entry_of, slices_from, Handed, counts_from, handed_from, handed_of, column_of, tick_of}
 
 -- Lines that spell records.
@@ -174,7 +175,7 @@ pub tick-table-next : tick_of (text_of (board ∷ counts 1 1 ∷ share 0 ∷ sli
 unfolding lines_of nibble_of pairs_of bytes_of digits_of text_of number_from entry_of slices_from counts_from handed_from handed_of pack_of slice_in lowest is_row check_of on_board
 tick-table-next = refl
 
-pub tick-last : tick_of (text_of (board ∷ counts 0 0 ∷ [])) 299 2 1 ≡ given idle
+pub tick-last : tick_of (text_of (board ∷ counts 0 0 ∷ [])) 299 2 1 ≡ given None
 unfolding lines_of nibble_of pairs_of bytes_of digits_of text_of number_from entry_of slices_from counts_from handed_from handed_of lowest collision_of check_of running_in on_board
 tick-last = refl
 

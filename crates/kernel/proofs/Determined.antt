@@ -1,17 +1,14 @@
--- The contracts of this crate determine their results: each is taken back from what it says, and every lent byte is told.
+-- The contracts of this crate determine their results, and every lent byte.
 --   tick ↦ tick-once
 --   pack ↦ pack-once, the answer with the lent bytes after the call
 -- Assumes nothing.
 use mathlib.Core.List.{List}
 use mathlib.Core.Path.{◌≡◌, sym, ◌∙◌}
 use Prim.Native.Nat.{ℕ}
+use Rattle.std.specs.Prelude.{Result}
 use Rattle.model.specs.Refusal.{Answer, given, refused}
-use Rattle.model.proofs.Determined.{Determines, Once, said-once}
-use Rattle.text.specs.Output.{says_written}
-use Rattle.text.specs.declared.Written.{Written}
-use Rattle.text.proofs.Determined.{written_of, written_back}
-use Rattle.handler.specs.Running.{says_named}
-use Rattle.handler.proofs.Determined.{named_of, named_back}
+use Rattle.model.specs.declared.Refusal.{Refusal}
+use Rattle.model.proofs.Determined.{Determines, Once, result-once}
 use Rattle.kernel.specs.Handed.{Handed, handed_of, PacksFor}
 use Rattle.kernel.proofs.tick
 use Rattle.kernel.specs.contracts.tick as tick_contract
@@ -19,15 +16,15 @@ use Rattle.kernel.proofs.pack
 use Rattle.kernel.specs.contracts.pack as pack_contract
 
 pub tick-once : Determines tick_contract.ended tick.Reads.Learnt
-tick-once κs args r s p q i = (said-once says_named named_of named_back _ r.0 s.0 p q i, r.1)
+tick-once κs args r s p q i = (result-once _ r.0 s.0 p q i, r.1)
 
 -- What the lines are decides whether bytes may change.
-packs-once : (answer : Answer Handed) (before : List ℕ) → Once (λ (r : Written × List ℕ). PacksFor answer before r.1 r.0)
+packs-once : (answer : Answer Handed) (before : List ℕ) → Once (λ (r : Result ℕ Refusal × List ℕ). PacksFor answer before r.1 r.0)
 packs-once (given h) before r s p q =
-    let written : r.0 ≡ s.0 = said-once says_written written_of written_back _ r.0 s.0 p.says q.says in
+    let written : r.0 ≡ s.0 = result-once _ r.0 s.0 p.says q.says in
     λ i. (written i, (p.bytes ∙ sym q.bytes) i)
 packs-once (refused number place) before r s p q =
-    let written : r.0 ≡ s.0 = said-once says_written written_of written_back _ r.0 s.0 p.0 q.0 in
+    let written : r.0 ≡ s.0 = result-once _ r.0 s.0 p.0 q.0 in
     λ i. (written i, (p.1 ∙ sym q.1) i)
 
 pub pack-once : Determines pack_contract.ended pack.Reads.Learnt

@@ -3,18 +3,19 @@
 use mathlib.Core.Bool.{Bool, true, false, cond, ◌&&◌}
 use mathlib.Core.List.{List, [], ◌∷◌}
 use mathlib.Core.Path.{◌≡◌, refl, ap, ◌∙◌}
-use Prim.Native.Nat.{ℕ, zero, suc, ◌+◌, ◌*◌, ◌/◌, ◌%◌, ◌<◌}
+use Prim.Native.Nat.{ℕ, ◌+◌, ◌/◌, ◌%◌, ◌<◌}
 use native.Mathlib.Omega.{arith}
 use borrow.Author.Tests.{eqb-true}
 use lib.Dec.{eqb}
 use lib.ListN.{length, take, drop}
+use Rattle.std.specs.Prelude.{Option, None, Some}
 use Rattle.rows.specs.Lists.{All}
 use Rattle.rows.proofs.Never.{never}
 use Rattle.model.specs.Refusal.{given, refused}
 use Rattle.model.specs.declared.Board.{Board}
-use Rattle.text.specs.Hex.{none, some, number_from, number_in}
+use Rattle.text.specs.Hex.{number_from, number_in}
 use Rattle.text.specs.Records.{Form, board_form, counts_form, share_form, slice_form, size_of, is_a, field}
-use Rattle.reader.specs.Cut.{line_length, line_in, CutAt}
+use Rattle.reader.specs.Cut.{line_length, line_in, CutAt, board_by}
 use Rattle.reader.specs.declared.Cut.{Cut}
 use Rattle.reader.proofs.Cuts.{Spelled, cut-none, cut-spelled}
 use Rattle.reader.proofs.Forms.{is_a-by, head-parts, board-parts}
@@ -66,68 +67,70 @@ slice-parts (t ∷ j ∷ k ∷ c ∷ s1 ∷ s2 ∷ l1 ∷ l2 ∷ []) n small =
     record { job = omega arith; kind = omega arith; core = omega arith; start = omega arith; length = omega arith }
 
 -- ---- what line i says, by its cut
--- The code's test of a form.
-abbrev pub tested : Cut → Form → Bool
-tested cut f = eqb (cut.head / 256) f.tag && eqb cut.size (size_of f)
+-- The code's test of a form, of a line that spells so many bytes.
+abbrev pub tested : Cut → ℕ → Form → Bool
+tested cut size f = eqb (cut.head / 256) f.tag && eqb size (size_of f)
 
-tested-size : (cut : Cut) (f : Form) → tested cut f ≡ true → cut.size ≡ size_of f
-tested-size cut f e = go (eqb (cut.head / 256) f.tag) e
+tested-size : (cut : Cut) (size : ℕ) (f : Form) → tested cut size f ≡ true → size ≡ size_of f
+tested-size cut size f e = go (eqb (cut.head / 256) f.tag) e
   where
-    go : (p : Bool) → p && eqb cut.size (size_of f) ≡ true → cut.size ≡ size_of f
-    go true e = eqb-true cut.size (size_of f) e
+    go : (p : Bool) → p && eqb size (size_of f) ≡ true → size ≡ size_of f
+    go true e = eqb-true size (size_of f) e
     go false e = never (cc)
 
 module _ (i : ℕ) (rest : List ℕ) (from : ℕ) (cut : Cut) where
-  pub says_none : CutAt rest from cut → cut.size ≡ 0 → form_says i (line_in rest) ≡ refused 8 i
+  pub says_none : CutAt rest from cut → cut.size ≡ None → form_says i (line_in rest) ≡ refused 8 i
   says_none at e = rw (cut-none rest from cut at e)
 
   -- A line that is not refused so ends where its digits do.
   pub says-end : CutAt rest from cut → (form_says i (line_in rest) ≡ refused 8 i → ⊥) → cut.end ≡ from + line_length rest
   says-end at not = go cut.size refl
     where
-      go : (n : ℕ) → cut.size ≡ n → cut.end ≡ from + line_length rest
-      go zero e = absurd (not (says_none at e))
-      go (suc n) e = (cut-spelled rest from cut at (omega arith)).end
+      go : (size : Option ℕ) → cut.size ≡ size → cut.end ≡ from + line_length rest
+      go None e = absurd (not (says_none at e))
+      go (Some n) e = (cut-spelled rest from cut at e).end
 
-  module _ (s : Spelled rest from cut) where
-    is-tested : (f : Form) → 1 < size_of f → is_a f s.bytes ≡ tested cut f
-    is-tested f more = rw (s.head, ← s.size) (is_a-by f s.bytes s.small more)
+  module _ (s : Spelled rest from cut) (size : ℕ) (is-size : cut.size ≡ Some size) where
+    long : length s.bytes ≡ size
+    long = cc (s.size, is-size)
 
-    sized : (f : Form) → tested cut f ≡ true → length s.bytes ≡ size_of f
-    sized f t = s.size ∙ tested-size cut f t
+    is-tested : (f : Form) → 1 < size_of f → is_a f s.bytes ≡ tested cut size f
+    is-tested f more = rw (s.head, ← long) (is_a-by f s.bytes s.small more)
 
-    pub says-board : tested cut board_form ≡ true → form_says i (line_in rest)
-        ≡ record_says i (some (of-board (record { window = cut.head % 256 * 256 + cut.a / 65536 % 256; first = cut.a / 256 % 256; second = cut.a % 256 })))
+    sized : (f : Form) → tested cut size f ≡ true → length s.bytes ≡ size_of f
+    sized f t = long ∙ tested-size cut size f t
+
+    pub says-board : tested cut size board_form ≡ true → form_says i (line_in rest) ≡ record_says i (Some (of-board (board_by cut)))
     unfolding entry_of
     says-board t =
         rw (s.is, is-tested board_form (omega arith), t, s.head, s.a)
         (ap (λ (b : Board). given (of-board b)) (board-parts s.bytes (sized board_form t) s.small))
 
-    module _ (no-board : tested cut board_form ≡ false) where
-      pub says-counts : tested cut counts_form ≡ true → form_says i (line_in rest) ≡ record_says i (some (of-counts (cut.head % 256) (cut.a % 256)))
+    module _ (no-board : tested cut size board_form ≡ false) where
+      pub says-counts : tested cut size counts_form ≡ true → form_says i (line_in rest) ≡ record_says i (Some (of-counts (cut.head % 256) (cut.a % 256)))
       unfolding entry_of
       says-counts t =
           let p = counts-parts s.bytes (sized counts_form t) s.small in
           rw (s.is, is-tested board_form (omega arith), is-tested counts_form (omega arith), no-board, t, s.head, s.a, p.0, p.1)
 
-      module _ (no-counts : tested cut counts_form ≡ false) where
-        pub says-share : tested cut share_form ≡ true → form_says i (line_in rest) ≡ record_says i (some (of-share (cut.head % 256)))
+      module _ (no-counts : tested cut size counts_form ≡ false) where
+        pub says-share : tested cut size share_form ≡ true → form_says i (line_in rest) ≡ record_says i (Some (of-share (cut.head % 256)))
         unfolding entry_of
         says-share t =
             let size = sized share_form t in
             let job = (head-parts s.bytes s.small (omega arith)).1 in
             rw (s.is, is-tested board_form (omega arith), is-tested counts_form (omega arith), is-tested share_form (omega arith), no-board, no-counts, t, s.head, job)
 
-        module _ (no-share : tested cut share_form ≡ false) where
-          others : entry_of s.bytes ≡ cond (is_slice s.bytes) (some (of-slice (slice_of s.bytes))) none
+        module _ (no-share : tested cut size share_form ≡ false) where
+          others : entry_of s.bytes ≡ cond (is_slice s.bytes) (Some (of-slice (slice_of s.bytes))) None
           unfolding entry_of
           others = rw (is-tested board_form (omega arith), is-tested counts_form (omega arith), is-tested share_form (omega arith), no-board, no-counts, no-share)
 
-          pub says-slice : tested cut slice_form ≡ true → form_says i (line_in rest) ≡ record_says i (slice_says cut)
+          pub says-slice : tested cut size slice_form ≡ true → form_says i (line_in rest) ≡ record_says i (slice_says cut)
           unfolding slice_says
           says-slice t =
               let p : SliceParts s.bytes cut.head cut.a cut.b = rw (s.head, s.a, s.b) (slice-parts s.bytes (sized slice_form t) s.small) in
               rw (s.is, others, is-tested slice_form (omega arith), t, p.job, p.kind, p.core, p.start, p.length)
 
-          pub says_other : tested cut slice_form ≡ false → form_says i (line_in rest) ≡ refused 9 i
+          pub says_other : tested cut size slice_form ≡ false → form_says i (line_in rest) ≡ refused 9 i
           says_other t = rw (s.is, others, is-tested slice_form (omega arith), t)

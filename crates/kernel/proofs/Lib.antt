@@ -1,4 +1,5 @@
--- The guide to this crate's proofs, in reading order. Each function's own proof is in the folder of its name, below that of its file.
+-- The guide to this crate's proofs, in reading order. What the check does not find of a function's proof is in the
+-- folder of its name, below that of its file.
 
 -- Both sides of each line that a definition draws. It stands first, so that a definition that is made weaker is refused at an example.
 pub mod BothSides

@@ -2,22 +2,21 @@
 use mathlib.Core.List.{List, map}
 use mathlib.Core.Path.{◌≡◌}
 use Prim.Native.Nat.{ℕ, ◌≤◌}
-use native.Mathlib.Omega.{arith}
 use lib.ListN.{take}
+use Rattle.std.specs.Prelude.{Result, Ok, Err}
 use Rattle.model.specs.Packed.{pack_of}
 use Rattle.model.specs.Refusal.{Answer, given, says_refusal}
 use Rattle.model.specs.declared.Refusal.{Refusal}
 use Rattle.kernel.specs.Handed.{Handed}
 use Rattle.kernel.specs.Reading.{rows_most, Hands}
 use Rattle.kernel.specs.declared.lines.Table.{Table}
-use Rattle.kernel.specs.declared.lines.Table.TheVariants.{Rows, Refused}
 
 module _ (answer : Answer Handed) (column : List ℕ) where
-  pub hands-refused : (r : Refusal) → answer ≡ says_refusal r → Hands answer (Refused r) column
-  hands-refused r e = record { says = rw e; few = omega arith }
+  pub hands-refused : (r : Refusal) → answer ≡ says_refusal r → Hands answer (Err r) column
+  hands-refused r e = record { says = rw e; few = tt }
 
-  pub hands-rows : (h : Handed) (n : ℕ) → answer ≡ given h → take n column ≡ map pack_of h.rows → n ≤ rows_most → Hands answer (Rows h.board n) column
+  pub hands-rows : (h : Handed) (n : ℕ) → answer ≡ given h → take n column ≡ map pack_of h.rows → n ≤ rows_most → Hands answer (Ok (record { board = h.board; rows = n })) column
   hands-rows h n e held few = record { says = rw (e, held); few = few }
 
-pub hands-as : {a b : Answer Handed} {r : Table} {column : List ℕ} → Hands a r column → b ≡ a → Hands b r column
+pub hands-as : {a b : Answer Handed} {r : Result Table Refusal} {column : List ℕ} → Hands a r column → b ≡ a → Hands b r column
 hands-as h e = rw e h

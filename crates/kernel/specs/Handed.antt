@@ -18,17 +18,16 @@
 --   column_of     the table as a column of numbers, as the handler takes it
 --   PacksFor     what packing lines promises: that of their table, or their refusal and no byte changed
 -- Assumes nothing.
-use Rattle.std.specs.Prelude.{Bool, true, cond, ◌&&◌, List, [], ◌∷◌, ◌++◌, map, ◌≡◌, ℕ, ◌+◌, eqb, leb, ltb, length}
+use Rattle.std.specs.Prelude.{Bool, true, cond, ◌&&◌, List, [], ◌∷◌, ◌++◌, map, ◌≡◌, ℕ, ◌+◌, eqb, leb, ltb, length, Option, None, Some, Result}
 use Rattle.model.specs.Limits.{text_most}
 use Rattle.model.specs.Packed.{pack_of}
-use Rattle.model.specs.Refusal.{Answer, given, refused, and_then}
+use Rattle.model.specs.Refusal.{Answer, given, refused, says, and_then}
 use Rattle.model.specs.declared.Board.{Board}
+use Rattle.model.specs.declared.Refusal.{Refusal}
 use Rattle.model.specs.declared.Slice.{Slice}
-use Rattle.text.specs.Hex.{Maybe, none, some, lines_of, bytes_of}
-use Rattle.text.specs.Output.{says_written}
+use Rattle.text.specs.Hex.{lines_of, bytes_of}
 use Rattle.text.specs.Records.{board_form, counts_form, share_form, is_a, field, board_in}
-use Rattle.text.specs.declared.Written.{Written}
-use Rattle.handler.specs.Running.{Running, asked_of}
+use Rattle.handler.specs.Running.{asked_of}
 use Rattle.packed.specs.Packed.{is_slice, slice_of, Packs}
 
 pub data Entry : Type 0 where
@@ -38,20 +37,20 @@ pub data Entry : Type 0 where
   of-slice : Slice → Entry
 
 -- The ticks of a share are not read.
-unfoldable pub entry_of : List ℕ → Maybe Entry
+unfoldable pub entry_of : List ℕ → Option Entry
 entry_of r =
-    cond (is_a board_form r) (some (of-board (board_in r)))
-    (cond (is_a counts_form r) (some (of-counts (field counts_form 0 r) (field counts_form 1 r)))
-    (cond (is_a share_form r) (some (of-share (field share_form 0 r)))
-    (cond (is_slice r) (some (of-slice (slice_of r))) none)))
+    cond (is_a board_form r) (Some (of-board (board_in r)))
+    (cond (is_a counts_form r) (Some (of-counts (field counts_form 0 r) (field counts_form 1 r)))
+    (cond (is_a share_form r) (Some (of-share (field share_form 0 r)))
+    (cond (is_slice r) (Some (of-slice (slice_of r))) None)))
 
-abbrev pub record_says : ℕ → Maybe Entry → Answer Entry
-record_says i none = refused 9 i
-record_says i (some e) = given e
+abbrev pub record_says : ℕ → Option Entry → Answer Entry
+record_says i None = refused 9 i
+record_says i (Some e) = given e
 
-abbrev pub bytes_say : ℕ → Maybe (List ℕ) → Answer Entry
-bytes_say i none = refused 8 i
-bytes_say i (some bs) = record_says i (entry_of bs)
+abbrev pub bytes_say : ℕ → Option (List ℕ) → Answer Entry
+bytes_say i None = refused 8 i
+bytes_say i (Some bs) = record_says i (entry_of bs)
 
 abbrev pub form_says : ℕ → List ℕ → Answer Entry
 form_says i line = bytes_say i (bytes_of line)
@@ -116,10 +115,10 @@ handed_of text = cond (ltb text_most (length text)) (refused 8 0) (handed_from (
 abbrev pub column_of : Handed → List ℕ
 column_of h = map pack_of h.rows
 
-abbrev pub tick_of : List ℕ → (tick kind core : ℕ) → Answer Running
+abbrev pub tick_of : List ℕ → (tick kind core : ℕ) → Answer (Option ℕ)
 tick_of text tick kind core = and_then (handed_of text) (λ (h : Handed). asked_of h.board (column_of h) tick kind core)
 
 -- Where the lines are refused no table is packed.
-abbrev pub PacksFor : Answer Handed → (before after : List ℕ) → Written → Type 0
+abbrev pub PacksFor : Answer Handed → (before after : List ℕ) → Result ℕ Refusal → Type 0
 PacksFor (given h) before after r = Packs h.board (column_of h) before after r
-PacksFor (refused number place) before after r = (says_written r ≡ refused number place) × (after ≡ before)
+PacksFor (refused number place) before after r = (says r ≡ refused number place) × (after ≡ before)

@@ -1,5 +1,6 @@
 -- Internal: no public promise cites this. What the functions that read the lines promise each other.
 --   says_entry   the entry that the code's says
+--   said_entry   the same where there is one
 --   says_line    what the code's answer on a line says
 --   slice_by     the slice of a kind, by the numbers of its line
 --   slice_says   the entry of the record of a slice, by the numbers of its line: none where its kind is neither 1 nor 2
@@ -12,63 +13,62 @@
 --   Column       a board with the numbers of its rows
 --   column_said  of an answer that gives a board and its rows, the numbers of these
 --   says_table   what the code's answer says, with the column that it has filled
---   count_in     how many rows it says, and 0 for a refusal
 --   rows_most    the most rows that a table in lines has: a byte counts them
 --   Hands        an answer and a column that say what the lines give
 -- Assumes nothing.
-use Rattle.std.specs.Prelude.{cond, ◌||◌, List, [], ◌∷◌, ◌≡◌, ℕ, ◌/◌, ◌%◌, ◌≤◌, eqb, take}
+use Rattle.std.specs.Prelude.{cond, ◌||◌, List, [], ◌∷◌, ◌≡◌, ℕ, ◌/◌, ◌%◌, ◌≤◌, eqb, take, Option, None, Some, Result, Ok, Err, IfOk}
 use Rattle.model.specs.Packed.{kind_of}
 use Rattle.model.specs.Refusal.{Answer, given, says_refusal, and_then}
 use Rattle.model.specs.declared.Board.{Board}
 use Rattle.model.specs.declared.Kind.{Kind}
+use Rattle.model.specs.declared.Refusal.{Refusal}
 use Rattle.model.specs.declared.Slice.{Slice}
-use Rattle.text.specs.Hex.{Maybe, none, some}
 use Rattle.reader.specs.Cut.{line_in, CutAt}
 use Rattle.reader.specs.declared.Cut.{Cut}
 use Rattle.kernel.specs.Handed.{Entry, of-board, of-counts, of-share, of-slice, form_says, line_says, Counts, in_place, slices_from, Handed, column_of}
+use Rattle.kernel.specs.declared.lines.Announced.{Announced}
 use Rattle.kernel.specs.declared.lines.Said.{Said}
 use Rattle.kernel.specs.declared.lines.Said.TheVariants.{OfBoard, OfCounts, OfShare, OfSlice}
-use Rattle.kernel.specs.declared.lines.Line.{Line}
-use Rattle.kernel.specs.declared.lines.Line.TheVariants.{Says, Refused as BadLine}
-use Rattle.kernel.specs.declared.lines.Row.{Row}
-use Rattle.kernel.specs.declared.lines.Row.TheVariants.{Holds, Nothing, Refused as BadRow}
 use Rattle.kernel.specs.declared.lines.Table.{Table}
-use Rattle.kernel.specs.declared.lines.Table.TheVariants.{Rows, Refused as BadTable}
 
 abbrev pub says_entry : Said → Entry
 says_entry (OfBoard b) = of-board b
-says_entry (OfCounts jobs slices) = of-counts jobs slices
+says_entry (OfCounts a) = of-counts a.jobs a.slices
 says_entry (OfShare job) = of-share job
 says_entry (OfSlice s) = of-slice s
 
-abbrev pub says_line : Line → Answer Entry
-says_line (Says s) = given (says_entry s)
-says_line (BadLine r) = says_refusal r
+abbrev pub said_entry : Option Said → Option Entry
+said_entry None = None
+said_entry (Some s) = Some (says_entry s)
+
+abbrev pub says_line : Result Said Refusal → Answer Entry
+says_line (Ok s) = given (says_entry s)
+says_line (Err r) = says_refusal r
 
 abbrev pub slice_by : Kind → Cut → Slice
 slice_by kind cut =
     record { job = cut.head % 256; kind = kind; core = cut.a / 65536 % 256; start = cut.a % 65536; length = cut.b % 65536 }
 
-unfoldable pub slice_says : Cut → Maybe Entry
+unfoldable pub slice_says : Cut → Option Entry
 slice_says cut =
     let kind : ℕ = cut.a / 16777216 in
-    cond (eqb kind 1 || eqb kind 2) (some (of-slice (slice_by (kind_of kind) cut))) none
+    cond (eqb kind 1 || eqb kind 2) (Some (of-slice (slice_by (kind_of kind) cut))) None
 
-pub record SaysCut (cut : Cut) (i : ℕ) (r : Line) : Type 0 where
+pub record SaysCut (cut : Cut) (i : ℕ) (r : Result Said Refusal) : Type 0 where
   pub is : (rest : List ℕ) (from : ℕ) → CutAt rest from cut → says_line r ≡ form_says i (line_in rest)
 
-abbrev pub counts : (jobs slices : ℕ) → Counts
-counts jobs slices = record { jobs = jobs; slices = slices }
+abbrev pub counts : Announced → Counts
+counts a = record { jobs = a.jobs; slices = a.slices }
 
 abbrev pub row_says : Counts → ℕ → List ℕ → Answer (List Slice)
 row_says c i line = and_then (line_says c.jobs i line) (in_place c i)
 
-abbrev pub says_row : Row → Answer (List Slice)
-says_row (Holds s) = given (s ∷ [])
-says_row Nothing = given []
-says_row (BadRow r) = says_refusal r
+abbrev pub says_row : Result (Option Slice) Refusal → Answer (List Slice)
+says_row (Ok (Some s)) = given (s ∷ [])
+says_row (Ok None) = given []
+says_row (Err r) = says_refusal r
 
-pub record SaysRow (c : Counts) (cut : Cut) (i : ℕ) (r : Row) : Type 0 where
+pub record SaysRow (c : Counts) (cut : Cut) (i : ℕ) (r : Result (Option Slice) Refusal) : Type 0 where
   pub is : (rest : List ℕ) (from : ℕ) → CutAt rest from cut → says_row r ≡ row_says c i (line_in rest)
 
 abbrev pub table_from : Board → Counts → List (List ℕ) → Answer Handed
@@ -81,17 +81,13 @@ pub record Column : Type 0 where
 abbrev pub column_said : Answer Handed → Answer Column
 column_said a = and_then a (λ (h : Handed). given (record { board = h.board; numbers = column_of h }))
 
-abbrev pub says_table : Table → List ℕ → Answer Column
-says_table (Rows b n) column = given (record { board = b; numbers = take n column })
-says_table (BadTable r) column = says_refusal r
-
-abbrev pub count_in : Table → ℕ
-count_in (Rows b n) = n
-count_in (BadTable r) = 0
+abbrev pub says_table : Result Table Refusal → List ℕ → Answer Column
+says_table (Ok t) column = given (record { board = t.board; numbers = take t.rows column })
+says_table (Err r) column = says_refusal r
 
 abbrev pub rows_most : ℕ
 rows_most = 255
 
-pub record Hands (answer : Answer Handed) (r : Table) (column : List ℕ) : Type 0 where
+pub record Hands (answer : Answer Handed) (r : Result Table Refusal) (column : List ℕ) : Type 0 where
   pub says : says_table r column ≡ column_said answer
-  pub few : count_in r ≤ rows_most
+  pub few : IfOk r (λ (t : Table). t.rows ≤ rows_most)

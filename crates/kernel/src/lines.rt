@@ -2,56 +2,46 @@
 // 8, 9 and 10. Hexadecimal is read by crate reader: a line comes from it as numbers, cut where a job's fields begin.
 ghost use Rattle.std.specs.Prelude.{◌&&◌, ◌≡◌, ◌/◌, ◌≤◌, eqb, length, drop};
 ghost use Rattle.model.specs.Limits.{text_most};
-ghost use Rattle.model.specs.Packed.{pack_of};
 ghost use Rattle.text.specs.Hex.{lines_of};
-ghost use Rattle.kernel.specs.Handed.{record_says, has_job, in_place, counts_from, handed_of};
-ghost use Rattle.kernel.specs.Reading.{says_entry, says_line, says_row, slice_by, slice_says, counts, SaysCut, SaysRow, rows_most, table_from, Hands};
+ghost use Rattle.kernel.specs.Handed.{has_job, in_place, counts_from, handed_of};
+ghost use Rattle.kernel.specs.Reading.{says_entry, said_entry, says_row, slice_by, slice_says, counts, SaysCut, SaysRow, table_from, Hands};
 
+use crate::ROWS_MOST;
 use model::{Board, Kind, Refusal, Slice, TEXT_MOST};
 use reader::Cut;
+
+// The jobs and the slices that the counts' line announces.
+#[derive(Clone, Copy)]
+struct Announced {
+    jobs: u8,
+    slices: u8,
+}
 
 // What a line says by its form.
 #[derive(Clone, Copy)]
 enum Said {
     OfBoard(Board),
-    OfCounts(u8, u8),
+    OfCounts(Announced),
     OfShare(u8),
     OfSlice(Slice),
 }
 
-// That, or the line's refusal.
+// A board, and how many rows its table has. It is no `reader::Head`, which counts jobs.
 #[derive(Clone, Copy)]
-enum Line {
-    Says(Said),
-    Refused(Refusal),
+pub(crate) struct Table {
+    pub(crate) board: Board,
+    pub(crate) rows: usize,
 }
 
-// What a line after the counts' gives the table: a row, nothing, or its refusal.
-#[derive(Clone, Copy)]
-enum Row {
-    Holds(Slice),
-    Nothing,
-    Refused(Refusal),
-}
-
-// A board with as many rows as are counted, or a refusal.
-#[derive(Clone, Copy)]
-pub(crate) enum Table {
-    Rows(Board, usize),
-    Refused(Refusal),
-}
-
-// Whether a line is of a record, by its first byte and how many bytes it has.
-fn is_a(cut: Cut, tag: u32, size: usize) -> bool
-    ensures { result ≡ (eqb (cut.head / 256) tag && eqb cut.size size) }
+// Whether a line is of a record, by its first byte, which is a number of the text's, and how many bytes it has.
+fn is_a(cut: Cut, size: usize, tag: u32, of: usize) -> bool
+    ensures { result ≡ (eqb (cut.head / 256) tag && eqb size of) }
 {
-    if cut.head / 256 == tag {
-        return cut.size == size;
-    }
-    false
+    cut.head / 256 == tag && size == of
 }
 
 // The slice of a record, by the numbers of its line. The kind, the core and the start are in `a`, from its high byte down.
+// It takes a kind beside the cut, so that it is no `From`. What is cast, here and below, is a remainder that fits.
 fn slice_by(kind: Kind, cut: Cut) -> Slice
     ensures { result ≡ slice_by kind cut }
 {
@@ -64,44 +54,39 @@ fn slice_by(kind: Kind, cut: Cut) -> Slice
     }
 }
 
-// What the record of a slice says: nothing where its kind is neither 1 nor 2.
-fn slice_says(cut: Cut, i: u32) -> Line
-    ensures { says_line result ≡ record_says i (slice_says cut) }
+// What the record of a slice says: nothing where its kind is neither 1 nor 2, the numbers of the text.
+#[tactic(auto, unfolding(crate::specs::Reading::slice_says))]
+fn slice_says(cut: Cut) -> Option<Said>
+    ensures { said_entry result ≡ slice_says cut }
 {
-    let kind = cut.a / 16777216;
-    if kind == 1 {
-        return Line::Says(Said::OfSlice(slice_by(Kind::First, cut)));
+    match cut.a / 16777216 {
+        1 => Some(Said::OfSlice(slice_by(Kind::First, cut))),
+        2 => Some(Said::OfSlice(slice_by(Kind::Second, cut))),
+        _ => None,
     }
-    if kind == 2 {
-        return Line::Says(Said::OfSlice(slice_by(Kind::Second, cut)));
-    }
-    Line::Refused(Refusal::Record(i))
 }
 
-// What line i says by its form.
-fn form_says(cut: Cut, i: u32) -> Line
+// What line i says by its form. A refusal names the line, so that `i` goes beside what the line says, here and below.
+fn form_says(cut: Cut, i: u32) -> Result<Said, Refusal>
     ensures { SaysCut cut i result }
 {
-    if cut.size == 0 {
-        return Line::Refused(Refusal::NotHex(i));
+    let size = cut.size.ok_or(Refusal::NotHex(i))?;
+    if is_a(cut, size, text::BOARD, text::BOARD_SIZE) {
+        return Ok(Said::OfBoard(cut.board()));
     }
-    if is_a(cut, text::BOARD, text::BOARD_SIZE) {
-        return Line::Says(Said::OfBoard(Board {
-            window: cut.head % 256 * 256 + cut.a / 65536 % 256,
-            first: cut.a / 256 % 256,
-            second: cut.a % 256,
+    if is_a(cut, size, u32::from(text::COUNTS), text::COUNTS_SIZE) {
+        return Ok(Said::OfCounts(Announced {
+            jobs: (cut.head % 256) as u8,
+            slices: (cut.a % 256) as u8,
         }));
     }
-    if is_a(cut, text::COUNTS as u32, text::COUNTS_SIZE) {
-        return Line::Says(Said::OfCounts((cut.head % 256) as u8, (cut.a % 256) as u8));
+    if is_a(cut, size, u32::from(text::SHARE), text::SHARE_SIZE) {
+        return Ok(Said::OfShare((cut.head % 256) as u8));
     }
-    if is_a(cut, text::SHARE as u32, text::SHARE_SIZE) {
-        return Line::Says(Said::OfShare((cut.head % 256) as u8));
+    if is_a(cut, size, u32::from(text::SLICE), text::SLICE_SIZE) {
+        return slice_says(cut).ok_or(Refusal::Record(i));
     }
-    if is_a(cut, text::SLICE as u32, text::SLICE_SIZE) {
-        return slice_says(cut, i);
-    }
-    Line::Refused(Refusal::Record(i))
+    Err(Refusal::Record(i))
 }
 
 // Whether the job that a line names, where it names one, is below a number.
@@ -109,143 +94,101 @@ fn has_job(jobs: u8, said: Said) -> bool
     ensures { result ≡ has_job jobs (says_entry said) }
 {
     match said {
-        Said::OfBoard(_) => true,
-        Said::OfCounts(_, _) => true,
+        Said::OfBoard(_) | Said::OfCounts(_) => true,
         Said::OfShare(job) => job < jobs,
         Said::OfSlice(slice) => slice.job < jobs,
     }
 }
 
 // What an entry gives the table at line i: the shares stand in order of their jobs, from line 3 on, and the slices behind them.
-fn in_place(jobs: u8, slices: u8, said: Said, i: u32) -> Row
-    ensures { says_row result ≡ in_place (counts jobs slices) i (says_entry said) }
+fn in_place(announced: Announced, said: Said, i: u32) -> Result<Option<Slice>, Refusal>
+    ensures { says_row result ≡ in_place (counts announced) i (says_entry said) }
 {
+    let first_slice = u32::from(announced.jobs) + 3;
+    let end = first_slice + u32::from(announced.slices);
     match said {
-        Said::OfBoard(_) => Row::Refused(Refusal::Order(i)),
-        Said::OfCounts(_, _) => Row::Refused(Refusal::Order(i)),
-        Said::OfShare(job) => {
-            if i == job as u32 + 3 {
-                return Row::Nothing;
-            }
-            Row::Refused(Refusal::Order(i))
-        }
-        Said::OfSlice(slice) => {
-            if i < jobs as u32 + 3 {
-                return Row::Refused(Refusal::Order(i));
-            }
-            if i < jobs as u32 + slices as u32 + 3 {
-                return Row::Holds(slice);
-            }
-            Row::Refused(Refusal::Order(i))
-        }
+        Said::OfShare(job) if i == u32::from(job) + 3 => Ok(None),
+        Said::OfSlice(slice) if first_slice <= i && i < end => Ok(Some(slice)),
+        _ => Err(Refusal::Order(i)),
     }
 }
 
 // What line i gives, where the counts were read: its form decides first, then its job, then its place.
-fn row_of(jobs: u8, slices: u8, cut: Cut, i: u32) -> Row
-    ensures { SaysRow (counts jobs slices) cut i result }
+fn row_of(announced: Announced, cut: Cut, i: u32) -> Result<Option<Slice>, Refusal>
+    ensures { SaysRow (counts announced) cut i result }
 {
-    match form_says(cut, i) {
-        Line::Refused(refusal) => Row::Refused(refusal),
-        Line::Says(said) => {
-            if has_job(jobs, said) {
-                return in_place(jobs, slices, said, i);
-            }
-            Row::Refused(Refusal::Record(i))
-        }
+    let said = form_says(cut, i)?;
+    if !has_job(announced.jobs, said) {
+        return Err(Refusal::Record(i));
     }
+    in_place(announced, said, i)
 }
 
-// A slice as one number: crate model, specs/Packed.antt.
-fn number_of(slice: Slice) -> u64
-    ensures { result ≡ pack_of slice }
-{
-    let kind = slice.kind;
-    let number = model::kind_number(kind);
-    (slice.job as u64)
-        + 256 * (number as u64)
-        + 65536 * (slice.core as u64)
-        + 16777216 * (slice.start as u64)
-        + 1099511627776 * (slice.length as u64)
-}
-
-// The lines from `from` on, the third of the text being the first of them. The line after the last is refused where one is missing.
+// The lines from `from` on, the third of the text being the first of them. The line after the last is refused where one is missing. A `while`, since a
+// line's end, and so the next one's start, is known only once it is cut.
 fn read_rows(
     lines: &[u8],
     from: usize,
     board: Board,
-    jobs: u8,
-    slices: u8,
-    rows: &mut [u64],
-) -> Table
-    requires { (length lines.now ≤ text_most) × (rows_most ≤ length rows.old) }
-    ensures { Hands (table_from board (counts jobs slices) (lines_of (drop from lines.now))) result rows.new }
+    announced: Announced,
+    rows: &mut [u64; ROWS_MOST],
+) -> Result<Table, Refusal>
+    requires { length lines.now ≤ text_most }
+    ensures { Hands (table_from board (counts announced) (lines_of (drop from lines.now))) result rows.new }
 {
     let mut n: usize = 0;
     let mut i: u32 = 3;
     let mut at = from;
     while at < lines.len() {
         let cut = reader::cut_at(lines, at);
-        match row_of(jobs, slices, cut, i) {
-            Row::Refused(refusal) => {
-                return Table::Refused(refusal);
-            }
-            Row::Nothing => {}
-            Row::Holds(slice) => {
-                rows[n] = number_of(slice);
-                n += 1;
-            }
+        if let Some(slice) = row_of(announced, cut, i)? {
+            rows[n] = u64::from(slice);
+            n += 1;
         }
         i += 1;
         at = cut.end + 1;
     }
-    if i < jobs as u32 + slices as u32 + 3 {
-        return Table::Refused(Refusal::Order(i));
+    if i < u32::from(announced.jobs) + u32::from(announced.slices) + 3 {
+        return Err(Refusal::Order(i));
     }
-    Table::Rows(board, n)
+    Ok(Table { board, rows: n })
 }
 
 // The lines from `from` on, the second of the text being the first of them: it has to be the counts'.
-fn read_counts(lines: &[u8], from: usize, board: Board, rows: &mut [u64]) -> Table
-    requires { (length lines.now ≤ text_most) × (rows_most ≤ length rows.old) }
+fn read_counts(
+    lines: &[u8],
+    from: usize,
+    board: Board,
+    rows: &mut [u64; ROWS_MOST],
+) -> Result<Table, Refusal>
+    requires { length lines.now ≤ text_most }
     ensures { Hands (counts_from board (lines_of (drop from lines.now))) result rows.new }
 {
     if lines.len() <= from {
-        return Table::Refused(Refusal::Order(2));
+        return Err(Refusal::Order(2));
     }
     let cut = reader::cut_at(lines, from);
-    match form_says(cut, 2) {
-        Line::Refused(refusal) => Table::Refused(refusal),
-        Line::Says(said) => match said {
-            Said::OfBoard(_) => Table::Refused(Refusal::Order(2)),
-            Said::OfCounts(jobs, slices) => {
-                read_rows(lines, cut.end + 1, board, jobs, slices, rows)
-            }
-            Said::OfShare(_) => Table::Refused(Refusal::Order(2)),
-            Said::OfSlice(_) => Table::Refused(Refusal::Order(2)),
-        },
+    match form_says(cut, 2)? {
+        Said::OfCounts(announced) => read_rows(lines, cut.end + 1, board, announced, rows),
+        _ => Err(Refusal::Order(2)),
     }
 }
 
 // A text's board and the rows of its table, a number each at the front of the column. After a refusal the column may hold anything.
-pub(crate) fn read_lines(lines: &[u8], rows: &mut [u64]) -> Table
-    requires { rows_most ≤ length rows.old }
+// It begins as `reader::read` does, and ends as `read_counts`: what they share is a test of a line each, and the records differ.
+pub(crate) fn read_lines(lines: &[u8], rows: &mut [u64; ROWS_MOST]) -> Result<Table, Refusal>
     ensures { Hands (handed_of lines.now) result rows.new }
 {
     if TEXT_MOST < lines.len() {
-        return Table::Refused(Refusal::NotHex(0));
+        // No line is to blame: refusal 8 names line 0 here.
+        return Err(Refusal::NotHex(0));
     }
-    if lines.len() == 0 {
-        return Table::Refused(Refusal::Order(1));
+    if lines.is_empty() {
+        return Err(Refusal::Order(1));
     }
     let cut = reader::cut_at(lines, 0);
-    match form_says(cut, 1) {
-        Line::Refused(refusal) => Table::Refused(refusal),
-        Line::Says(said) => match said {
-            Said::OfBoard(board) => read_counts(lines, cut.end + 1, board, rows),
-            Said::OfCounts(_, _) => Table::Refused(Refusal::Order(1)),
-            Said::OfShare(_) => Table::Refused(Refusal::Order(1)),
-            Said::OfSlice(_) => Table::Refused(Refusal::Order(1)),
-        },
+    match form_says(cut, 1)? {
+        Said::OfBoard(board) => read_counts(lines, cut.end + 1, board, rows),
+        _ => Err(Refusal::Order(1)),
     }
 }

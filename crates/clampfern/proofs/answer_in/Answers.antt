@@ -6,7 +6,7 @@ use Rattle.clampfern.proofs.Lines.{columns-planned, columns-place}
 use Rattle.clampfern.proofs.answer_in.Goals as goal
 
 pub write_refused-requires : goal.write_refused-requires
-write_refused-requires c = omega (arith, columns-place c.plan_columns-planned.ensures (upto-length _ _) c.in-Refused.is)
+write_refused-requires c = omega (arith, columns-place c.plan_columns-planned.ensures (upto-length _ _) c.in-Err.is)
 
-pub returns-in-Plan : goal.returns-in-Plan
-returns-in-Plan c = rw (← (columns-planned c.plan_columns-planned.ensures (upto-length _ _) c.in-Plan.is)) c.write_plan.ensures
+pub returns-in-Ok : goal.returns-in-Ok
+returns-in-Ok c = rw (← (columns-planned c.plan_columns-planned.ensures (upto-length _ _) c.in-Ok.is)) c.write_plan.ensures

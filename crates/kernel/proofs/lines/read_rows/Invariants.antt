@@ -7,7 +7,7 @@ use Rattle.kernel.proofs.LineByLine.{Turn}
 use Rattle.kernel.proofs.lines.read_rows.Given as goal
 
 abbrev pub invariant-loop-at : goal.invariant-loop-at
-invariant-loop-at l = Turn l.lines l.from (counts l.jobs l.slices) (length l.initial.rows) l.rows l.n l.i l.at
+invariant-loop-at l = Turn l.lines l.from (counts l.announced) (length l.initial.rows) l.rows l.n l.i l.at
 
 abbrev pub decreases-loop-at : goal.decreases-loop-at
 decreases-loop-at l = length l.lines - l.at
