@@ -8,487 +8,296 @@
 ghost use Rattle.std.specs.Prelude.{◌≤◌};
 ghost use Rattle.model.specs.Limits.{jobs_most, slices_most};
 
-use columns::Planned;
+use columns::Counts;
 use model::{
     Board, FirstTicks, JOBS_MOST, Job, Kind, Refusal, SLICES_MOST, SecondTicks, Share, Slice,
 };
 use planner::PlannedMoves;
-use reader::Reading;
+use reader::Head;
 use slices::Moves;
-use split::Balanced;
-use streams::{Got, INPUT_MOST};
+use std::array::from_fn;
+use std::fmt;
+use std::fmt::Write;
+use streams::{INPUT_MOST, Output, Signed};
 
-// What was planned into columns, and the rows that these then hold.
+// A share and a slice that no plan has, and the ticks and the slice that no column of a plan has. A mark is a row and no option of one, since the
+// planning calls are lent tables and columns of rows.
+const SHARE_MARK: Share = Share {
+    first: FirstTicks(4294967295),
+    second: SecondTicks(4294967295),
+};
+
+const SLICE_MARK: Slice = Slice {
+    job: 255,
+    kind: Kind::Second,
+    core: 255,
+    start: 65535,
+    length: 0,
+};
+
+const TICKS_MARK: u16 = 65535;
+
+const PACKED_MARK: u64 = 65535;
+
+// A set: a board with the first `n` jobs, as `planner::moves` takes them.
+#[derive(Clone, Copy)]
+struct Set {
+    board: Board,
+    jobs: [Job; JOBS_MOST],
+    n: usize,
+    ghost within: { n ≤ jobs_most },
+}
+
+// How many rows of tables are lent.
+#[derive(Clone, Copy)]
+struct Rows {
+    shares: usize,
+    slices: usize,
+    ghost shares_within: { shares ≤ jobs_most },
+    ghost slices_within: { slices ≤ slices_most },
+}
+
+// What the planning call over columns answered, and what these then held.
 #[derive(Clone, Copy)]
 struct Columns {
-    planned: Planned,
-    shares: [Share; JOBS_MOST],
-    slices: [Slice; SLICES_MOST],
+    counts: Result<Counts, Refusal>,
+    first: [u16; JOBS_MOST],
+    second: [u16; JOBS_MOST],
+    slices: [u64; SLICES_MOST],
 }
 
-// What was planned into lent tables, and the tables after it.
+// What a planning call answered, and the rows that its tables or its columns then held.
 #[derive(Clone, Copy)]
-struct Lent {
-    planned: Planned,
+struct Answered {
+    counts: Result<Counts, Refusal>,
     shares: [Share; JOBS_MOST],
     slices: [Slice; SLICES_MOST],
 }
 
-// Where a piece cannot be written it says so, once for each piece.
-fn put(rt: &HostRuntime, text: &[u8]) {
-    if !streams::write_output(rt.stdout(), text) {
-        streams::complain(rt.stderr(), b"facts: the answer cannot be written\n");
+// Whether a table begins with the rows, and holds marks behind them.
+fn holds<T: PartialEq>(table: &[T], rows: &[T], mark: &T) -> bool {
+    table
+        .strip_prefix(rows)
+        .is_some_and(|rest| rest.iter().all(|row| *row == *mark))
+}
+
+impl Columns {
+    // Whether columns that were lent were refused by 7 and keep their marks.
+    fn are_too_short(&self) -> bool {
+        self.counts == Err(Refusal::TooShort)
+            && holds(&self.first, &[], &TICKS_MARK)
+            && holds(&self.second, &[], &TICKS_MARK)
+            && holds(&self.slices, &[], &PACKED_MARK)
     }
-}
 
-fn put_number(rt: &HostRuntime, n: u64) {
-    let mut digits = [0u8; 20];
-    let count = io::decimal(n, &mut digits);
-    put(rt, &digits[..count]);
-}
-
-fn put_signed(rt: &HostRuntime, n: i64) {
-    if n < 0 {
-        put(rt, b"-");
-    }
-    put_number(rt, streams::size_of(n));
-}
-
-fn put_refused(rt: &HostRuntime, refusal: Refusal) {
-    put(rt, b"refused ");
-    put_number(rt, model::number(refusal) as u64);
-    put(rt, b" ");
-    put_number(rt, model::place(refusal));
-    put(rt, b"\n");
-}
-
-// The starting balance. A set that has none is refused by the planning call too, which says why.
-fn put_balance(rt: &HostRuntime, balanced: Balanced) {
-    match balanced {
-        Balanced::Given(b) => {
-            put(rt, b"balance ");
-            put_signed(rt, b.first);
-            put(rt, b" ");
-            put_signed(rt, b.second);
-            put(rt, b"\n");
+    // The rows of the columns. They are read here and not by crate planner, whose rows they are compared with.
+    fn rows(&self) -> Answered {
+        Answered {
+            counts: self.counts,
+            shares: from_fn(|job| Share {
+                first: FirstTicks(u32::from(self.first[job])),
+                second: SecondTicks(u32::from(self.second[job])),
+            }),
+            slices: self.slices.map(Slice::from),
         }
-        Balanced::Refused(_) => {}
     }
 }
 
-fn put_job(rt: &HostRuntime, job: usize, moves: Moves) {
-    put(rt, b"moves ");
-    put_number(rt, job as u64);
-    put(rt, b" ");
-    put_number(rt, moves.outer as u64);
-    put(rt, b" ");
-    put_number(rt, moves.inner as u64);
-    put(rt, b"\n");
-}
+impl Answered {
+    // The shares and the slices of the plan. A refusal has none.
+    fn planned_shares(&self) -> &[Share] {
+        let jobs = self.counts.map_or(0, |counts| counts.jobs);
+        &self.shares[..jobs.min(JOBS_MOST)]
+    }
 
-fn put_moves(rt: &HostRuntime, moves: [Moves; JOBS_MOST], n: usize) {
-    let mut i: usize = 0;
-    while i < JOBS_MOST {
-        let of_job = moves[i];
-        if i < n {
-            put_job(rt, i, of_job);
-        }
-        i += 1;
+    fn planned_slices(&self) -> &[Slice] {
+        let slices = self.counts.map_or(0, |counts| counts.slices);
+        &self.slices[..slices.min(SLICES_MOST)]
+    }
+
+    // Whether a lent call answered as the other one did, and left the rows of its plan, and marks behind them.
+    fn is_as(&self, plan: &Answered) -> bool {
+        self.counts == plan.counts
+            && holds(&self.shares, plan.planned_shares(), &SHARE_MARK)
+            && holds(&self.slices, plan.planned_slices(), &SLICE_MARK)
+    }
+
+    // Whether a lent call was refused by 7, and left marks alone.
+    fn is_too_short(&self) -> bool {
+        self.counts == Err(Refusal::TooShort)
+            && holds(&self.shares, &[], &SHARE_MARK)
+            && holds(&self.slices, &[], &SLICE_MARK)
+    }
+
+    // Whether the moves are those that the rows give.
+    fn has_moves(&self, moved: &PlannedMoves) -> bool {
+        (0..).zip(&moved.moves).take(moved.counts.jobs).all(|(job, moves)| *moves
+            == slices::moves_of(self.slices, moved.counts.slices, job))
     }
 }
 
-// A share and a slice that no plan has.
-fn share_mark() -> Share {
-    Share {
-        first: FirstTicks(4294967295),
-        second: SecondTicks(4294967295),
-    }
-}
-
-fn slice_mark() -> Slice {
-    Slice {
-        job: 255,
-        kind: Kind::Second,
-        core: 255,
-        start: 65535,
-        length: 0,
-    }
-}
-
-fn is_first(kind: Kind) -> bool {
-    match kind {
-        Kind::First => true,
-        Kind::Second => false,
-    }
-}
-
-fn same_share(a: Share, b: Share) -> bool {
-    a.first.0 == b.first.0 && a.second.0 == b.second.0
-}
-
-fn same_slice(a: Slice, b: Slice) -> bool {
-    let kind = a.kind;
-    let kind2 = b.kind;
-    a.job == b.job
-        && is_first(kind) == is_first(kind2)
-        && a.core == b.core
-        && a.start == b.start
-        && a.length == b.length
-}
-
-fn same_refusal(a: Refusal, b: Refusal) -> bool {
-    model::number(a) == model::number(b) && model::place(a) == model::place(b)
-}
-
-fn same_planned(a: Planned, b: Planned) -> bool {
-    match a {
-        Planned::Plan(shared, sliced) => match b {
-            Planned::Plan(shared2, sliced2) => shared == shared2 && sliced == sliced2,
-            Planned::Refused(_) => false,
-        },
-        Planned::Refused(refusal) => match b {
-            Planned::Plan(_, _) => false,
-            Planned::Refused(refusal2) => same_refusal(refusal, refusal2),
-        },
-    }
-}
-
-fn same_moves(a: Moves, b: Moves) -> bool {
-    a.outer == b.outer && a.inner == b.inner
-}
-
-// Whether a row is the plan's where the plan has one, and a mark where it has none.
-fn is_share(row: Share, planned: Share, has: bool) -> bool {
-    if has {
-        same_share(row, planned)
-    } else {
-        same_share(row, share_mark())
-    }
-}
-
-fn is_slice(row: Slice, planned: Slice, has: bool) -> bool {
-    if has {
-        same_slice(row, planned)
-    } else {
-        same_slice(row, slice_mark())
-    }
-}
-
-// Whether the first `n` rows are the plan's, and the others marks.
-fn are_shares(rows: [Share; JOBS_MOST], plan: [Share; JOBS_MOST], n: usize) -> bool {
-    let mut i: usize = 0;
-    while i < JOBS_MOST {
-        let row = rows[i];
-        let planned = plan[i];
-        if !is_share(row, planned, i < n) {
-            return false;
-        }
-        i += 1;
-    }
-    true
-}
-
-fn are_slices(rows: [Slice; SLICES_MOST], plan: [Slice; SLICES_MOST], n: usize) -> bool {
-    let mut i: usize = 0;
-    while i < SLICES_MOST {
-        let row = rows[i];
-        let planned = plan[i];
-        if !is_slice(row, planned, i < n) {
-            return false;
-        }
-        i += 1;
-    }
-    true
-}
-
-// Whether the moves of the first `n` jobs are those that the first `sliced` rows of a table give.
-fn are_moves(
-    moves: [Moves; JOBS_MOST],
-    n: usize,
-    rows: [Slice; SLICES_MOST],
-    sliced: usize,
-) -> bool {
-    let mut i: usize = 0;
-    while i < JOBS_MOST {
-        let of_job = moves[i];
-        let of_rows = slices::moves_of(rows, sliced, i as u8);
-        if i < n && !same_moves(of_job, of_rows) {
-            return false;
-        }
-        i += 1;
-    }
-    true
-}
-
-// The planning call over the first `n` jobs, with the first `m` and `k` rows of the tables lent to it.
+// The planning call with the first rows of the tables lent to it. The tables go in by value, since tests/stack.sh takes both copies of them off the
+// frame that this call and the next one share.
 fn plan_lent(
-    board: Board,
-    jobs: &[Job; JOBS_MOST],
-    n: usize,
+    set: &Set,
     mut shares: [Share; JOBS_MOST],
-    m: usize,
     mut slices: [Slice; SLICES_MOST],
-    k: usize,
-) -> Lent
-    requires { (n ≤ jobs_most) × ((m ≤ jobs_most) × (k ≤ slices_most)) }
-{
-    let planned = planner::plan(board, &jobs[..n], &mut shares[..m], &mut slices[..k]);
-    Lent {
-        planned,
+    rows: Rows,
+) -> Answered {
+    let jobs = &set.jobs[..set.n];
+    let lent_shares = &mut shares[..rows.shares];
+    let counts = planner::plan(set.board, jobs, lent_shares, &mut slices[..rows.slices]);
+    Answered {
+        counts,
         shares,
         slices,
     }
 }
 
 // The same with tables of marks.
-fn plan_over_marks(board: Board, jobs: &[Job; JOBS_MOST], n: usize, m: usize, k: usize) -> Lent
-    requires { (n ≤ jobs_most) × ((m ≤ jobs_most) × (k ≤ slices_most)) }
+fn plan_over_marks(set: &Set, rows: Rows) -> Answered {
+    plan_lent(
+        set,
+        [SHARE_MARK; JOBS_MOST],
+        [SLICE_MARK; SLICES_MOST],
+        rows,
+    )
+}
+
+// The planning call over the first rows of columns of marks: so many of each column of ticks, and of the column of slices.
+fn plan_in_columns(set: &Set, first: usize, second: usize, slices: usize) -> Columns
+    requires { (first ≤ jobs_most) × (second ≤ jobs_most) × (slices ≤ slices_most) }
 {
-    let shares = [share_mark(); JOBS_MOST];
-    let slices = [slice_mark(); SLICES_MOST];
-    plan_lent(board, jobs, n, shares, m, slices, k)
-}
-
-// The jobs of two columns of costs.
-fn jobs_of(first: [u32; JOBS_MOST], second: [u32; JOBS_MOST]) -> [Job; JOBS_MOST] {
-    let mut jobs = [Job::OnlyFirst(FirstTicks(0)); JOBS_MOST];
-    let mut i: usize = 0;
-    while i < JOBS_MOST {
-        jobs[i] = model::job_of(first[i], second[i]);
-        i += 1;
-    }
-    jobs
-}
-
-// The shares of two columns of ticks.
-fn shares_of(first: [u16; JOBS_MOST], second: [u16; JOBS_MOST]) -> [Share; JOBS_MOST] {
-    let mut shares = [share_mark(); JOBS_MOST];
-    let mut i: usize = 0;
-    while i < JOBS_MOST {
-        shares[i] = Share {
-            first: FirstTicks(first[i] as u32),
-            second: SecondTicks(second[i] as u32),
-        };
-        i += 1;
-    }
-    shares
-}
-
-// The slices of a column of numbers.
-fn slices_of(packed: [u64; SLICES_MOST]) -> [Slice; SLICES_MOST] {
-    let mut slices = [slice_mark(); SLICES_MOST];
-    let mut i: usize = 0;
-    while i < SLICES_MOST {
-        slices[i] = model::slice_in(packed[i]);
-        i += 1;
-    }
-    slices
-}
-
-// The planning call over columns.
-fn plan_in_columns(board: Board, jobs: [Job; JOBS_MOST], n: usize) -> Columns {
-    let first = model::costs(Kind::First, jobs, n);
-    let second = model::costs(Kind::Second, jobs, n);
-    let mut shares1 = [0u16; JOBS_MOST];
-    let mut shares2 = [0u16; JOBS_MOST];
-    let mut packed = [0u64; SLICES_MOST];
-    let planned = columns::plan_columns(
-        board,
-        &first,
-        &second,
-        n,
-        &mut shares1,
-        &mut shares2,
-        &mut packed,
+    let costs1 = model::costs(Kind::First, &set.jobs, set.n);
+    let costs2 = model::costs(Kind::Second, &set.jobs, set.n);
+    let mut columns = Columns {
+        counts: Err(Refusal::TooShort),
+        first: [TICKS_MARK; JOBS_MOST],
+        second: [TICKS_MARK; JOBS_MOST],
+        slices: [PACKED_MARK; SLICES_MOST],
+    };
+    columns.counts = columns::plan_columns(
+        set.board,
+        &costs1,
+        &costs2,
+        set.n,
+        &mut columns.first[..first],
+        &mut columns.second[..second],
+        &mut columns.slices[..slices],
     );
-    Columns {
-        planned,
-        shares: shares_of(shares1, shares2),
-        slices: slices_of(packed),
-    }
-}
-
-// Whether a column of ticks holds marks alone, and whether one of slices does.
-fn are_tick_marks(column: [u16; JOBS_MOST]) -> bool {
-    let mut i: usize = 0;
-    while i < JOBS_MOST {
-        if column[i] != 65535 {
-            return false;
-        }
-        i += 1;
-    }
-    true
-}
-
-fn are_packed_marks(column: [u64; SLICES_MOST]) -> bool {
-    let mut i: usize = 0;
-    while i < SLICES_MOST {
-        if column[i] != 65535 {
-            return false;
-        }
-        i += 1;
-    }
-    true
-}
-
-// Whether columns of so many rows are refused by 7 and keep their marks.
-fn is_too_short(
-    board: Board,
-    jobs: [Job; JOBS_MOST],
-    n: usize,
-    m1: usize,
-    m2: usize,
-    k: usize,
-) -> bool
-    requires { (m1 ≤ jobs_most) × ((m2 ≤ jobs_most) × (k ≤ slices_most)) }
-{
-    let first = model::costs(Kind::First, jobs, n);
-    let second = model::costs(Kind::Second, jobs, n);
-    let mut shares1 = [65535u16; JOBS_MOST];
-    let mut shares2 = [65535u16; JOBS_MOST];
-    let mut packed = [65535u64; SLICES_MOST];
-    let planned = columns::plan_columns(
-        board,
-        &first,
-        &second,
-        n,
-        &mut shares1[..m1],
-        &mut shares2[..m2],
-        &mut packed[..k],
-    );
-    same_planned(planned, Planned::Refused(Refusal::TooShort))
-        && are_tick_marks(shares1)
-        && are_tick_marks(shares2)
-        && are_packed_marks(packed)
+    columns
 }
 
 // Whether columns that one set could be too long for are refused, each in turn, whatever the set.
-fn is_refused_short(board: Board, jobs: [Job; JOBS_MOST], n: usize) -> bool {
-    is_too_short(board, jobs, n, JOBS_MOST - 1, JOBS_MOST, SLICES_MOST)
-        && is_too_short(board, jobs, n, JOBS_MOST, JOBS_MOST - 1, SLICES_MOST)
-        && is_too_short(board, jobs, n, JOBS_MOST, JOBS_MOST, SLICES_MOST - 1)
-}
-
-// Whether the tables hold the rows of the plan that was answered, and marks behind them. A refusal has no rows.
-fn has_its_rows(lent: Lent, t: Columns) -> bool {
-    let planned = lent.planned;
-    let shares = lent.shares;
-    let slices = lent.slices;
-    let shares2 = t.shares;
-    let slices2 = t.slices;
-    match planned {
-        Planned::Refused(_) => are_shares(shares, shares2, 0) && are_slices(slices, slices2, 0),
-        Planned::Plan(shared, sliced) => {
-            are_shares(shares, shares2, shared) && are_slices(slices, slices2, sliced)
-        }
-    }
-}
-
-// Whether a lent call answered so, and left the rows that go with it.
-fn is_answered(lent: Lent, answer: Planned, t: Columns) -> bool {
-    let planned = lent.planned;
-    same_planned(planned, answer) && has_its_rows(lent, t)
+fn is_refused_short(set: &Set) -> bool {
+    plan_in_columns(set, JOBS_MOST - 1, JOBS_MOST, SLICES_MOST).are_too_short()
+        && plan_in_columns(set, JOBS_MOST, JOBS_MOST - 1, SLICES_MOST).are_too_short()
+        && plan_in_columns(set, JOBS_MOST, JOBS_MOST, SLICES_MOST - 1).are_too_short()
 }
 
 // Whether tables of exactly the rows of a plan do, and each in turn a row too short is refused.
-fn is_right_at_the_edge(
-    board: Board,
-    jobs: [Job; JOBS_MOST],
-    n: usize,
-    shared: usize,
-    sliced: usize,
-    t: Columns,
-) -> bool
-    requires { (n ≤ jobs_most) × ((shared ≤ jobs_most) × (sliced ≤ slices_most)) }
-{
-    let exact = plan_over_marks(board, &jobs, n, shared, sliced);
-    if !is_answered(exact, Planned::Plan(shared, sliced), t) {
+fn is_right_at_the_edge(set: &Set, counts: Counts, plan: &Answered) -> bool {
+    let Counts { jobs, slices } = counts;
+    if JOBS_MOST < jobs || SLICES_MOST < slices {
         return false;
     }
-    if shared > 0 {
-        let short = plan_over_marks(board, &jobs, n, shared - 1, sliced);
-        if !is_answered(short, Planned::Refused(Refusal::TooShort), t) {
+    let exact = Rows {
+        shares: jobs,
+        slices,
+    };
+    if !plan_over_marks(set, exact).is_as(plan) {
+        return false;
+    }
+    if jobs > 0 {
+        let short = Rows {
+            shares: jobs - 1,
+            slices,
+        };
+        if !plan_over_marks(set, short).is_too_short() {
             return false;
         }
     }
-    if sliced > 0 {
-        let short = plan_over_marks(board, &jobs, n, shared, sliced - 1);
-        if !is_answered(short, Planned::Refused(Refusal::TooShort), t) {
-            return false;
-        }
+    if slices > 0 {
+        let short = Rows {
+            shares: jobs,
+            slices: slices - 1,
+        };
+        return plan_over_marks(set, short).is_too_short();
     }
     true
 }
 
 // Whether the lent call into long tables answered as `moves` and the call over columns did, and left the rows of the columns; and where there is a
 // plan, whether the moves are those of the rows that were written, the call is right at the edge, and the call over columns refuses short ones.
-fn is_right(board: Board, jobs: [Job; JOBS_MOST], n: usize, lent: Lent, moved: PlannedMoves) -> bool
-    requires { n ≤ jobs_most }
-{
-    let t = plan_in_columns(board, jobs, n);
-    let answer = moved.planned;
-    let in_columns = t.planned;
-    if !same_planned(in_columns, answer) {
+fn is_right(set: &Set, lent: &Answered, moved: &Result<PlannedMoves, Refusal>) -> bool {
+    let plan = plan_in_columns(set, JOBS_MOST, JOBS_MOST, SLICES_MOST).rows();
+    if !lent.is_as(&plan) {
         return false;
     }
-    if !is_answered(lent, answer, t) {
-        return false;
-    }
-    match answer {
-        Planned::Refused(_) => true,
-        Planned::Plan(shared, sliced) => {
-            if JOBS_MOST < shared {
-                return false;
-            }
-            if SLICES_MOST < sliced {
-                return false;
-            }
-            let moves = moved.moves;
-            let rows = lent.slices;
-            are_moves(moves, shared, rows, sliced)
-                && is_right_at_the_edge(board, jobs, n, shared, sliced, t)
-                && is_refused_short(board, jobs, n)
+    match moved {
+        Err(refusal) => plan.counts == Err(*refusal),
+        Ok(moved) => {
+            plan.counts == Ok(moved.counts)
+                && lent.has_moves(moved)
+                && is_right_at_the_edge(set, moved.counts, &plan)
+                && is_refused_short(set)
         }
     }
 }
 
-// The facts of a set of the first `n` jobs.
-fn show(rt: &HostRuntime, board: Board, jobs: [Job; JOBS_MOST], n: usize)
-    requires { n ≤ jobs_most }
-{
-    put_balance(rt, split::starting_balance(board, jobs, n));
-    let lent = plan_over_marks(board, &jobs, n, JOBS_MOST, SLICES_MOST);
-    let moved = planner::moves(board, jobs, n);
-    let planned = lent.planned;
-    match planned {
-        Planned::Refused(refusal) => put_refused(rt, refusal),
-        Planned::Plan(shared, _) => {
-            let moves = moved.moves;
-            put_moves(rt, moves, shared);
-        }
+// The moves of the jobs of a plan.
+fn put_moves(out: &mut Output, moved: &PlannedMoves) -> fmt::Result {
+    for (job, moves) in moved.moves.iter().take(moved.counts.jobs).enumerate() {
+        let Moves { outer, inner } = *moves;
+        writeln!(out, "moves {job} {outer} {inner}")?;
     }
-    if !is_right(board, jobs, n, lent, moved) {
-        put(rt, b"lent wrong\n");
+    Ok(())
+}
+
+// The facts of a set. One that has no starting balance is refused by the planning call too, which says why.
+fn show(out: &mut Output, set: &Set) -> fmt::Result {
+    if let Ok(balance) = split::starting_balance(set.board, set.jobs, set.n) {
+        writeln!(
+            out,
+            "balance {} {}",
+            Signed(balance.first),
+            Signed(balance.second)
+        )?;
     }
+    let all = Rows {
+        shares: JOBS_MOST,
+        slices: SLICES_MOST,
+    };
+    let lent = plan_over_marks(set, all);
+    let moved = planner::moves(set.board, set.jobs, set.n);
+    match &moved {
+        Err(refusal) => writeln!(out, "refused {refusal}")?,
+        Ok(moved) => put_moves(out, moved)?,
+    }
+    if !is_right(set, &lent, &moved) {
+        writeln!(out, "lent wrong")?;
+    }
+    Ok(())
 }
 
 // The facts of a text.
-fn show_text(rt: &HostRuntime, text: &[u8]) {
+fn show_text(out: &mut Output, text: &[u8]) -> fmt::Result {
     let mut first = [0u32; JOBS_MOST];
     let mut second = [0u32; JOBS_MOST];
     match reader::read(text, &mut first, &mut second) {
-        Reading::Refused(refusal) => put_refused(rt, refusal),
-        Reading::Set(board, n) => {
-            let jobs = jobs_of(first, second);
-            show(rt, board, jobs, n);
+        Err(refusal) => writeln!(out, "refused {refusal}"),
+        Ok(Head { board, jobs: n }) => {
+            let jobs = from_fn(|job| model::job_of(first[job], second[job]));
+            show(out, &Set { board, jobs, n })
         }
     }
 }
 
-fn main(rt: HostRuntime) {
+fn main(rt: HostRuntime) -> fmt::Result {
     let mut input = [0u8; INPUT_MOST];
-    match streams::read_input(rt.stdin(), &mut input) {
-        Got::Whole(count) => show_text(&rt, &input[..count]),
-        Got::Failed => streams::complain(rt.stderr(), b"facts: the input cannot be read\n"),
+    let mut out = Output::new(&rt, b"facts: the answer cannot be written\n");
+    match streams::whole_input(&rt, &mut input, b"facts: the input cannot be read\n") {
+        Some(count) => show_text(&mut out, &input[..count]),
+        None => Ok(()),
     }
 }

@@ -3,22 +3,16 @@
 // empty, which no answer is; that, and an answer that cannot be written, is a line on standard error, since no program has an exit status here.
 #![tactic(auto)]
 
-use streams::{Got, INPUT_MOST};
-
-// Writes the answer to a text.
-fn answer(rt: &HostRuntime, text: &[u8]) {
-    let lines = clampfern::answer(text);
-    let bytes = lines.bytes;
-    let size = lines.size;
-    if !streams::write_output(rt.stdout(), &bytes[..size]) {
-        streams::complain(rt.stderr(), b"plan: the answer cannot be written\n");
-    }
-}
+use streams::INPUT_MOST;
 
 fn main(rt: HostRuntime) {
     let mut input = [0u8; INPUT_MOST];
-    match streams::read_input(rt.stdin(), &mut input) {
-        Got::Whole(count) => answer(&rt, &input[..count]),
-        Got::Failed => streams::complain(rt.stderr(), b"plan: the input cannot be read\n"),
+    let complaint = b"plan: the input cannot be read\n";
+    if let Some(count) = streams::whole_input(&rt, &mut input, complaint) {
+        // Bytes and a size: it is the answer's public form.
+        let lines = clampfern::answer(&input[..count]);
+        if streams::write_output(rt.stdout(), &lines.bytes[..lines.size]).is_err() {
+            streams::complain(rt.stderr(), b"plan: the answer cannot be written\n");
+        }
     }
 }

@@ -6,157 +6,89 @@
 // does; here they are run.
 #![tactic(auto)]
 
-use handler::{Moved, Named, Position, Step};
-use model::{CORES_MOST, Refusal, WINDOW_MOST};
-use streams::{Got, INPUT_MOST};
+use handler::Position;
+use model::{CORES_MOST, Kind, Refusal, WINDOW_MOST};
+use std::fmt;
+use std::fmt::Write;
+use streams::{INPUT_MOST, Output};
 
-// What can be counted of a core: the jobs that a byte can name, then none.
-const IDLE: usize = 256;
+// The jobs that a byte can name.
+const NUMBERS: usize = 256;
 
-const COUNTS: usize = IDLE + 1;
-
-// What was counted of each kind in a window, where the position then is, and whether both calls always moved it alike.
+// The cores of a kind, and what was counted of them: how often each job was named, and how often none was.
 #[derive(Clone, Copy)]
-struct Walked {
-    first: [u32; COUNTS],
-    second: [u32; COUNTS],
-    tick: u32,
-    alike: bool,
+struct Counted {
+    kind: Kind,
+    cores: u32,
+    jobs: [u32; NUMBERS],
+    idle: u32,
 }
 
-// Where a piece cannot be written it says so, once for each piece.
-fn put(rt: &HostRuntime, text: &[u8]) {
-    if !streams::write_output(rt.stdout(), text) {
-        streams::complain(rt.stderr(), b"window: the answer cannot be written\n");
+// The job of a core at a tick, where it has one. The kernel takes a kind by its number.
+fn named(lines: &[u8], tick: u32, kind: Kind, core: u32) -> Result<Option<u8>, Refusal> {
+    kernel::tick(lines, tick, u32::from(u8::from(kind)), core)
+}
+
+// The ticks of the window: as many as there are for the first core. It is asked of lines that are not refused themselves, as all below.
+fn window_of(lines: &[u8]) -> u32 {
+    (0..WINDOW_MOST)
+        .find(|tick| named(lines, *tick, Kind::First, 0).is_err())
+        .unwrap_or(WINDOW_MOST)
+}
+
+impl Counted {
+    // Of as many cores as there are at the first tick, nothing is counted yet.
+    fn new(lines: &[u8], kind: Kind) -> Counted {
+        let cores = (0..CORES_MOST)
+            .find(|core| named(lines, 0, kind, *core).is_err())
+            .unwrap_or(CORES_MOST);
+        Counted {
+            kind,
+            cores,
+            jobs: [0; NUMBERS],
+            idle: 0,
+        }
     }
-}
 
-fn put_number(rt: &HostRuntime, n: u64) {
-    let mut digits = [0u8; 20];
-    let count = io::decimal(n, &mut digits);
-    put(rt, &digits[..count]);
+    // Counts what the cores do at a tick: a count is at most 65,535 times 8, so it never wraps. A core that is there is not refused; a line would show
+    // it.
+    fn count(&mut self, out: &mut Output, lines: &[u8], tick: u32) -> fmt::Result {
+        for core in 0..self.cores {
+            match named(lines, tick, self.kind, core) {
+                Ok(Some(job)) => {
+                    let at = usize::from(job);
+                    self.jobs[at] = self.jobs[at].wrapping_add(1);
+                }
+                Ok(None) => self.idle = self.idle.wrapping_add(1),
+                Err(refusal) => writeln!(out, "refused {refusal}")?,
+            }
+        }
+        Ok(())
+    }
 }
 
 // A blank and a count of each kind, which end a line.
-fn put_counts(rt: &HostRuntime, first: u32, second: u32) {
-    put(rt, b" ");
-    put_number(rt, first as u64);
-    put(rt, b" ");
-    put_number(rt, second as u64);
-    put(rt, b"\n");
-}
-
-fn put_refused(rt: &HostRuntime, refusal: Refusal) {
-    put(rt, b"refused ");
-    put_number(rt, model::number(refusal) as u64);
-    put(rt, b" ");
-    put_number(rt, model::place(refusal));
-    put(rt, b"\n");
+fn put_counts(out: &mut Output, first: u32, second: u32) -> fmt::Result {
+    writeln!(out, " {first} {second}")
 }
 
 // The jobs that were named, by number.
-fn put_jobs(rt: &HostRuntime, first: [u32; COUNTS], second: [u32; COUNTS]) {
-    let mut job: usize = 0;
-    while job < IDLE {
-        if first[job] > 0 || second[job] > 0 {
-            put(rt, b"job ");
-            put_number(rt, job as u64);
-            put_counts(rt, first[job], second[job]);
+fn put_jobs(out: &mut Output, first: &Counted, second: &Counted) -> fmt::Result {
+    for (job, (first, second)) in first.jobs.iter().zip(&second.jobs).enumerate() {
+        if *first > 0 || *second > 0 {
+            write!(out, "job {job}")?;
+            put_counts(out, *first, *second)?;
         }
-        job += 1;
     }
+    Ok(())
 }
 
-// Whether the board has a core at a tick. It is asked of lines that are not refused themselves.
-fn is_there(lines: &[u8], tick: u32, kind: u32, core: u32) -> bool {
-    match kernel::tick(lines, tick, kind, core) {
-        Named::Job(_) => true,
-        Named::Idle => true,
-        Named::Refused(_) => false,
-    }
-}
-
-// The ticks of the window: as many as there are for the first core.
-fn window_of(lines: &[u8]) -> u32 {
-    let mut tick: u32 = 0;
-    while tick < WINDOW_MOST {
-        if !is_there(lines, tick, 1, 0) {
-            return tick;
-        }
-        tick += 1;
-    }
-    tick
-}
-
-// The cores of a kind: as many as there are at the first tick.
-fn cores_of(lines: &[u8], kind: u32) -> u32 {
-    let mut core: u32 = 0;
-    while core < CORES_MOST {
-        if !is_there(lines, 0, kind, core) {
-            return core;
-        }
-        core += 1;
-    }
-    core
-}
-
-// Counts what the cores of a kind do at a tick: a count is at most 65,535 times 8, so it never wraps. A core that is there is not refused; a line would
-// show it.
-fn count_kind(
-    rt: &HostRuntime,
-    lines: &[u8],
-    tick: u32,
-    kind: u32,
-    cores: u32,
-    counts: &mut [u32; COUNTS],
-) {
-    let mut core: u32 = 0;
-    while core < cores {
-        match kernel::tick(lines, tick, kind, core) {
-            Named::Job(job) => {
-                let at = job as usize;
-                counts[at] = std::num::wrapping_add_u32(counts[at], 1);
-            }
-            Named::Idle => counts[IDLE] = std::num::wrapping_add_u32(counts[IDLE], 1),
-            Named::Refused(refusal) => put_refused(rt, refusal),
-        }
-        core += 1;
-    }
-}
-
-// A position by value, moved on by the call that takes it lent.
-fn moved_lent(window: u32, tick: u32) -> Step {
+// Whether both calls move a position alike. Where it is refused, it stays.
+fn moves_alike(window: u32, tick: u32) -> bool {
     let mut position = Position { tick };
     let moved = handler::move_on(window, &mut position);
-    Step {
-        tick: position.tick,
-        moved,
-    }
-}
-
-fn same_moved(a: Moved, b: Moved) -> bool {
-    match a {
-        Moved::On => match b {
-            Moved::On => true,
-            Moved::Refused(_) => false,
-        },
-        Moved::Refused(refusal) => match b {
-            Moved::On => false,
-            Moved::Refused(refusal2) => {
-                model::number(refusal) == model::number(refusal2)
-                    && model::place(refusal) == model::place(refusal2)
-            }
-        },
-    }
-}
-
-// Whether both calls move a position alike.
-fn moves_alike(window: u32, tick: u32) -> bool {
-    let lent = moved_lent(window, tick);
-    let by_value = handler::moved_on(window, tick);
-    let a = lent.moved;
-    let b = by_value.moved;
-    lent.tick == by_value.tick && same_moved(a, b)
+    let next = handler::moved_on(window, tick);
+    moved == next.map(|_| ()) && position.tick == next.unwrap_or(tick)
 }
 
 // Whether they do where they refuse: at a position past the window, and for windows outside their limits.
@@ -168,57 +100,39 @@ fn refuse_alike(window: u32) -> bool {
 }
 
 // Goes through one window of lines that are not refused, from position 0.
-fn walk(rt: &HostRuntime, lines: &[u8], window: u32) -> Walked {
-    let cores1 = cores_of(lines, 1);
-    let cores2 = cores_of(lines, 2);
-    let mut first = [0u32; COUNTS];
-    let mut second = [0u32; COUNTS];
-    let mut alike = refuse_alike(window);
-    let mut tick: u32 = 0;
-    let mut moves: u32 = 0;
-    while moves < window {
-        count_kind(rt, lines, tick, 1, cores1, &mut first);
-        count_kind(rt, lines, tick, 2, cores2, &mut second);
-        alike = alike && moves_alike(window, tick);
-        let next = moved_lent(window, tick);
-        tick = next.tick;
-        moves += 1;
+fn walk(out: &mut Output, lines: &[u8], window: u32) -> fmt::Result {
+    let mut first = Counted::new(lines, Kind::First);
+    let mut second = Counted::new(lines, Kind::Second);
+    let mut position = Position { tick: 0 };
+    for _ in 0..window {
+        first.count(out, lines, position.tick)?;
+        second.count(out, lines, position.tick)?;
+        // A refusal would leave the position, which the last lines show.
+        let _ = handler::move_on(window, &mut position);
     }
-    Walked {
-        first,
-        second,
-        tick,
-        alike,
+    put_jobs(out, &first, &second)?;
+    write!(out, "idle")?;
+    put_counts(out, first.idle, second.idle)?;
+    writeln!(out, "position {}", position.tick)?;
+    if !refuse_alike(window) || !(0..window).all(|tick| moves_alike(window, tick)) {
+        writeln!(out, "position wrong")?;
     }
-}
-
-fn put_walked(rt: &HostRuntime, walked: Walked) {
-    let first = walked.first;
-    let second = walked.second;
-    put_jobs(rt, first, second);
-    put(rt, b"idle");
-    put_counts(rt, first[IDLE], second[IDLE]);
-    put(rt, b"position ");
-    put_number(rt, walked.tick as u64);
-    put(rt, b"\n");
-    if !walked.alike {
-        put(rt, b"position wrong\n");
-    }
+    Ok(())
 }
 
 // Every board that is accepted has a first tick and a first core of the first kind, so what is refused there is the lines or their table.
-fn show(rt: &HostRuntime, lines: &[u8]) {
-    match kernel::tick(lines, 0, 1, 0) {
-        Named::Refused(refusal) => put_refused(rt, refusal),
-        Named::Job(_) => put_walked(rt, walk(rt, lines, window_of(lines))),
-        Named::Idle => put_walked(rt, walk(rt, lines, window_of(lines))),
+fn show(out: &mut Output, lines: &[u8]) -> fmt::Result {
+    match named(lines, 0, Kind::First, 0) {
+        Err(refusal) => writeln!(out, "refused {refusal}"),
+        Ok(_) => walk(out, lines, window_of(lines)),
     }
 }
 
-fn main(rt: HostRuntime) {
+fn main(rt: HostRuntime) -> fmt::Result {
     let mut input = [0u8; INPUT_MOST];
-    match streams::read_input(rt.stdin(), &mut input) {
-        Got::Whole(count) => show(&rt, &input[..count]),
-        Got::Failed => streams::complain(rt.stderr(), b"window: the input cannot be read\n"),
+    let mut out = Output::new(&rt, b"window: the answer cannot be written\n");
+    match streams::whole_input(&rt, &mut input, b"window: the input cannot be read\n") {
+        Some(count) => show(&mut out, &input[..count]),
+        None => Ok(()),
     }
 }

@@ -1,11 +1,8 @@
 -- `streams::write_to` meets its contract. The measure is the bytes that are left with the interruptions that it still bears: a call that moved
 -- bytes leaves fewer of the first, and one that was interrupted fewer of the second. Assumes nothing.
-use Prim.Native.Nat.{◌+◌, ◌-◌, ◌≤◌}
+use Prim.Native.Nat.{◌+◌}
 use lib.ListN.{length}
 use Rattle.streams.proofs.write_to.Given as goal
 
-abbrev pub invariant-loop-done : goal.invariant-loop-done
-invariant-loop-done g l = l.done ≤ length l.bytes
-
-abbrev pub decreases-loop-done : goal.decreases-loop-done
-decreases-loop-done g l = length l.bytes - l.done + l.spare
+abbrev pub decreases-loop-rest : goal.decreases-loop-rest
+decreases-loop-rest g l = length l.rest + l.spare
