@@ -4,10 +4,10 @@
 set -u -o pipefail
 cd "$(dirname "$0")/.." || exit 2
 stored='0 465
-8 5990
-64 56578
-worst 81129
-refused 63710'
+8 5332
+64 49548
+worst 71930
+refused 59316'
 mapfile -t groups < <(cut -d ' ' -f 1 <<<"$stored")
 counts=$(tools/counts "${groups[@]}") || { printf '%s\n' "$counts" && exit 1; }
 paste -d ' ' <(printf '%s\n' "$stored") <(printf '%s\n' "$counts") | awk '
