@@ -66,18 +66,18 @@ fn parts(table: &[u8]) -> Option<(&Head, &[Row])>
     }
 }
 
-// What rows say. From the last to the first, so that the answer of the rows behind is kept while the form of every row is looked at.
-#[tactic(auto, using(crate::proofs::Looked::all_left, crate::proofs::Looked::job_here, crate::proofs::Looked::job_before))]
+// What rows say. The first that is there is the answer, and the form of every row is looked at.
+#[tactic(auto, using(crate::proofs::Looked::all_more, crate::proofs::Looked::job_here, crate::proofs::Looked::job_before))]
 fn look_over(rows: &[Row], tick: u32, kind: u32, core: u32) -> Result<Option<u8>, Refusal>
     ensures { says result ≡ rows_say tick kind core rows.now }
 {
     let mut answer = None;
-    for row in rows.iter().rev() {
+    for row in rows {
         if !is_slice(row) {
             return Err(Refusal::Record(0));
         }
         if is_there(row, tick, kind, core) {
-            answer = Some(row[1]);
+            answer = answer.or(Some(row[1]));
         }
     }
     Ok(answer)
@@ -92,15 +92,16 @@ fn is_slice(row: &Row) -> bool
 }
 
 // Whether a row is on a core and runs at a tick. The handler asks it of a slice: one would have to be made of the bytes, and its kind turned back.
+// Its ticks are read where its core is the one: a table is asked at each tick, and most of its rows are on others.
 #[tactic(auto, using(crate::proofs::Bytes::there_is))]
 fn is_there(row: &Row, tick: u32, kind: u32, core: u32) -> bool
     ensures { result ≡ is_there tick kind core row.now }
 {
+    if u32::from(row[2]) != kind || u32::from(row[3]) != core {
+        return false;
+    }
     let start = pair(row[4], row[5]);
-    u32::from(row[2]) == kind
-        && u32::from(row[3]) == core
-        && start <= tick
-        && tick < start + pair(row[6], row[7])
+    start <= tick && tick < start + pair(row[6], row[7])
 }
 
 // The board of its record. It is no `From`, since neither type is of this crate.
