@@ -52,7 +52,7 @@ all=$((2 * ${#libraries[@]} + 1)) # each library and its edit, and the program
     printf '#!/bin/sh\ncat tests/c/window.stdout\n' >window
     printf '%s\n' 'lib.a[x.o]:' 'clampfern_'{plan,tick,pack,packed_tick}' T 0 1' 'memcpy U' 'memset U' >symbols
     printf '%s\n' '0000 <clampfern_plan>:' $'   0:\tpush   %rbx' $'   1:\tsub    $0x10,%rsp' $'   2:\tcall   10 <split::steps>' $'   3:\tret' \
-        '0010 <split::steps>:' $'  10:\tmov    %eax,-0x18(%rsp)' $'  11:\tret' '0020 <facts::plan_over_marks>:' $'  20:\tsub    $0xa00,%rsp' \
+        '0010 <split::steps>:' $'  10:\tmov    %eax,-0x18(%rsp)' $'  11:\tret' '0020 <facts::plan_lent>:' $'  20:\tsub    $0x20,%rsp' \
         $'  21:\tret' '0030 <clampfern_'{tick,pack,packed_tick}$'>:\n  30:\tret' >code
     echo 'texts 10' >counted
     printf '%s\n' '10 ( 1.0%)  ???:split::steps [x]' '2,000 ( 9.0%)  ???:clampfern_plan [x]' '9,000 (90.0%)  memset.S:memset [x]' >annotated
@@ -233,12 +233,12 @@ passes tests/example.sh '' 'left broken && rm -r crates/clampfern/out/rlib/clamp
 passes tests/stack.sh 'clampfern_plan 64 bytes, clampfern_tick 8 bytes, clampfern_pack 8 bytes, clampfern_packed_tick 8 bytes, planner::plan 40 bytes'
 fails 'clampfern_plan needs 4144 bytes of stack' 'sed -i s/0x10,/0x1000,/ said/code'
 fails 'clampfern_plan needs 4128 bytes of stack' 'sed -i "s/mov .*/sub    \$0xff8,%rsp/" said/code'
-fails 'planner::plan needs 4136 bytes of stack' 'sed -i s/0xa00,/0x1a00,/ said/code'
+fails 'planner::plan needs 4136 bytes of stack' 'sed -i s/0x20,/0x1020,/ said/code'
 for entry in plan tick pack packed_tick; do
     fails "there is no function clampfern_$entry" "sed -i s/clampfern_$entry/more/ said/code"
 done
 fails 'clampfern_tick needs 4104 bytes of stack' 'sed -i "/<clampfern_tick>/a\  30:\tsub    \$0x1000,%rsp" said/code'
-fails 'there is no function facts::plan_over_marks' 'sed -i s/plan_over_marks/more/ said/code'
+fails 'there is no function facts::plan_lent' 'sed -i s/plan_lent/more/ said/code'
 fails 'split::steps calls itself' 'sed -i "s/ret/call   10 <split::steps>/" said/code'
 fails 'split::steps has call   *%rax' 'sed -i "s/mov .*/call   *%rax/" said/code'
 fails 'split::steps has sub    %rax,%rsp' 'sed -i "s/mov .*/sub    %rax,%rsp/" said/code'

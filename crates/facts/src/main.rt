@@ -136,32 +136,22 @@ impl Answered {
     }
 }
 
-// The planning call with the first rows of the tables lent to it. The tables go in by value, since tests/stack.sh takes both copies of them off the
-// frame that this call and the next one share.
-fn plan_lent(
-    set: &Set,
-    mut shares: [Share; JOBS_MOST],
-    mut slices: [Slice; SLICES_MOST],
-    rows: Rows,
-) -> Answered {
-    let jobs = &set.jobs[..set.n];
-    let lent_shares = &mut shares[..rows.shares];
-    let counts = planner::plan(set.board, jobs, lent_shares, &mut slices[..rows.slices]);
+// The planning call, by itself: it is put into no caller, so that tests/stack.sh reads off this function what the call takes, and no table is in it.
+#[inline(never)]
+fn plan_lent(set: &Set, shares: &mut [Share], slices: &mut [Slice]) -> Result<Counts, Refusal> {
+    planner::plan(set.board, &set.jobs[..set.n], shares, slices)
+}
+
+// The same with the first rows of tables of marks lent to it.
+fn plan_over_marks(set: &Set, rows: Rows) -> Answered {
+    let mut shares = [SHARE_MARK; JOBS_MOST];
+    let mut slices = [SLICE_MARK; SLICES_MOST];
+    let counts = plan_lent(set, &mut shares[..rows.shares], &mut slices[..rows.slices]);
     Answered {
         counts,
         shares,
         slices,
     }
-}
-
-// The same with tables of marks.
-fn plan_over_marks(set: &Set, rows: Rows) -> Answered {
-    plan_lent(
-        set,
-        [SHARE_MARK; JOBS_MOST],
-        [SLICE_MARK; SLICES_MOST],
-        rows,
-    )
 }
 
 // The planning call over the first rows of columns of marks: so many of each column of ticks, and of the column of slices.
