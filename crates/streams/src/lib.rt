@@ -3,7 +3,7 @@
 // ends, a count lies within its buffer, and no error says the end (`call_of`). What the loops make of that tests/plan.sh tries.
 #![tactic(auto)]
 
-ghost use Rattle.std.specs.Prelude.{◌≡◌, nat_abs, Some, ◌≤◌, IfSome, length};
+ghost use Rattle.std.specs.Prelude.{◌≡◌, nat_abs, Some, ◌≤◌, IfSome, IsOk, length};
 ghost use Rattle.std.specs.Fmt.{signed_decimal};
 ghost use Rattle.std.specs.Io.{ReadsAtMost};
 ghost use Rattle.streams.specs.Call.{Said};
@@ -135,7 +135,12 @@ impl Output {
 }
 
 impl fmt::Write for Output {
-    fn write_str(&mut self, piece: &str) -> fmt::Result {
+    ghost write_str_gives = { λ before _ after. after.complaint.now ≡ before.complaint.now };
+
+    fn write_str(&mut self, piece: &str) -> fmt::Result
+        ensures never_fails { IsOk result }
+        ensures same { self.new.complaint.now ≡ self.old.complaint.now }
+    {
         self.put(piece.as_bytes());
         Ok(())
     }

@@ -142,10 +142,14 @@ fn refusals(out: &mut Output) -> fmt::Result {
     show(out, wide, four(ok, ok, ok, second(1000000)), 3)
 }
 
-fn main(rt: HostRuntime) -> fmt::Result {
-    // Nobody is told what cannot be written.
-    let mut out = Output::new(&rt, b"");
-    table_of_document_01(&mut out)?;
-    table_of_source_003(&mut out)?;
-    refusals(&mut out)
+// Every set in turn.
+fn show_all(out: &mut Output) -> fmt::Result {
+    table_of_document_01(out)?;
+    table_of_source_003(out)?;
+    refusals(out)
+}
+
+fn main(rt: HostRuntime) {
+    // Nobody is told what cannot be written, and no write of the output is an error.
+    let _ = show_all(&mut Output::new(&rt, b""));
 }
