@@ -1,10 +1,11 @@
 -- Records by the numbers of their bytes, cut as a job's are: which form they have, and what a board's says. The idea: the tests come out by the first
 -- byte and the length, and a number's bytes are its digits to the base 256. Assumes nothing.
-use mathlib.Core.Bool.{◌&&◌}
+use mathlib.Core.Bool.{Bool, true, false, ◌&&◌}
 use mathlib.Core.List.{List, [], ◌∷◌}
-use mathlib.Core.Path.{◌≡◌}
+use mathlib.Core.Path.{◌≡◌, refl}
 use Prim.Native.Nat.{ℕ, ◌+◌, ◌*◌, ◌/◌, ◌%◌, ◌<◌}
 use native.Mathlib.Omega.{arith}
+use borrow.Author.Tests.{eq-eqb, eqb-true}
 use lib.Dec.{eqb}
 use lib.ListN.{length, take, drop, get_or}
 use Rattle.std.proofs.lemmas.Bool.Decides.{nat_tests}
@@ -12,6 +13,19 @@ use Rattle.rows.specs.Lists.{All}
 use Rattle.model.specs.declared.Board.{Board}
 use Rattle.text.specs.Hex.{number_from, number_in}
 use Rattle.text.specs.Records.{Form, board_form, size_of, is_a, board_in}
+
+-- Whether bytes are a record of a form, by what the code finds out.
+module _ (f : Form) (bs : List ℕ) where
+  pub is_a-so : get_or bs 0 0 ≡ f.tag → length bs ≡ size_of f → is_a f bs ≡ true
+  is_a-so tag size = rw (eq-eqb _ _ tag, eq-eqb _ _ size)
+
+  pub is_a-not : (get_or bs 0 0 ≡ f.tag → length bs ≡ size_of f → ⊥) → is_a f bs ≡ false
+  is_a-not never = go (eqb (get_or bs 0 0) f.tag) refl (eqb (length bs) (size_of f)) refl
+    where
+      go : (p : Bool) → eqb (get_or bs 0 0) f.tag ≡ p → (q : Bool) → eqb (length bs) (size_of f) ≡ q → p && q ≡ false
+      go true e true g = absurd (never (eqb-true _ _ e) (eqb-true _ _ g))
+      go true e false g = refl
+      go false e q g = refl
 
 -- The first two bytes.
 pub head-parts : (bs : List ℕ) → All (λ (b : ℕ). b < 256) bs → 1 < length bs
