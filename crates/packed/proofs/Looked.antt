@@ -1,25 +1,20 @@
 -- A walk over the rows of packed bytes from the first to the last. One idea: the answer so far is what the rows so far say. Assumes nothing.
---   row_next              the rows up to the next place are those so far, and the one that is taken
 --   all_more              each row up to there is a slice's, as each so far is and the one that was taken
 --   job_here, job_before  the job of the first row that is there: of one before, or else of the row that was taken
 use mathlib.Core.Bool.{true, false}
-use mathlib.Core.List.{List, []}
+use mathlib.Core.List.{List}
 use mathlib.Core.Path.{◌≡◌, refl}
-use Prim.Native.Nat.{ℕ, ◌+◌, ◌<◌}
+use Prim.Native.Nat.{ℕ}
 use native.Mathlib.Omega.{arith}
-use lib.ListN.{length, take, get_or}
+use lib.ListN.{length}
 use Rattle.std.specs.Prelude.{Option, Some}
 use Rattle.std.specs.List.{list_all, push}
 use Rattle.std.specs.Option.{option_or}
-use Rattle.std.proofs.lemmas.List.{take_more}
 use Rattle.std.proofs.lemmas.List.Folds.{find-append, list_all-append}
 use Rattle.rows.specs.Upto.{at}
 use Rattle.packed.specs.Packed.{is_slice}
 use Rattle.packed.specs.Asking.{is_there, job_of}
 use Rattle.packed.proofs.Bytes.{job-is}
-
-pub row_next : (rows : List (List ℕ)) (i : ℕ) → i < length rows → take (i + 1) rows ≡ push (take i rows) (get_or rows i [])
-row_next rows i within = take_more rows i [] within
 
 module _ (front next : List (List ℕ)) (row : List ℕ) (taken : next ≡ push front row) where
   pub all_more : list_all is_slice front ≡ true → true ≡ is_slice row → list_all is_slice next ≡ true

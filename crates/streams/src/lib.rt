@@ -135,8 +135,6 @@ impl Output {
 }
 
 impl fmt::Write for Output {
-    ghost write_str_gives = { λ before _ after. after.complaint.now ≡ before.complaint.now };
-
     fn write_str(&mut self, piece: &str) -> fmt::Result
         ensures never_fails { IsOk result }
         ensures same { self.new.complaint.now ≡ self.old.complaint.now }

@@ -3,9 +3,10 @@ use mathlib.Core.Path.{◌≡◌, ◌∙◌}
 use Rattle.std.proofs.Common.{rules, [], ◌+◌}
 use Rattle.std.specs.Prelude.{Some}
 use Rattle.std.specs.Option.{option_or}
+use Rattle.std.proofs.lemmas.List.{take_more}
 use lib.ListN.{take, get_or}
 use Rattle.rows.specs.Upto.{at}
-use Rattle.packed.proofs.Looked.{row_next, all_more, job_here, job_before}
+use Rattle.packed.proofs.Looked.{all_more, job_here, job_before}
 use Rattle.packed.proofs.look_over.Goals as goal
 use Rattle.packed.proofs.look_over.Goals.{then-is_there, else-is_there}
 
@@ -16,7 +17,7 @@ loop-row-preserved c =
     let i = c.loop-row.row-index in
     let row = get_or rows i [] in
     let so_far = c.loop-row.answer in
-    let taken = row_next rows i (search rules) in (
+    let taken = take_more rows i [] (search rules) in (
       all_more (take i rows) (take (i + 1) rows) row taken c.loop-row.invariant.0 (search rules),
       elim c.if-is_there.branch [
         | then-is_there w ↦
