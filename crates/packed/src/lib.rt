@@ -92,7 +92,7 @@ fn is_slice(row: &Row) -> bool
 }
 
 // Whether a row is on a core and runs at a tick. The handler asks it of a slice: one would have to be made of the bytes, and its kind turned back.
-// Its ticks are read where its core is the one: a table is asked at each tick, and most of its rows are on others.
+// Its ticks are read only where its kind and core are those that are asked for: a table is asked at each tick, and other rows are passed over so.
 #[tactic(auto, using(crate::proofs::Bytes::there_is))]
 fn is_there(row: &Row, tick: u32, kind: u32, core: u32) -> bool
     ensures { result ≡ is_there tick kind core row.now }

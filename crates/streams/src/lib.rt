@@ -1,6 +1,7 @@
 // The standard input and output of our programs, over std's read and write. A read that failed is told from the end of the input, and a write that
 // moved a part or failed from one that moved all. No contract can say which bytes were read or written. What is proved: each function is safe and
-// ends, a count lies within its buffer, and no error says the end (`call_of`). What the loops make of that tests/plan.sh tries.
+// ends, a count lies within its buffer, no error says the end (`call_of`), and no piece of an `Output` is an error. What the loops make of that
+// tests/plan.sh tries.
 #![tactic(auto)]
 
 ghost use Rattle.std.specs.Prelude.{◌≡◌, nat_abs, Some, ◌≤◌, IfSome, IsOk, length};
